@@ -1,0 +1,23 @@
+-- A test that antt computes for every number below a limit, as a rule at each of them.
+use mathlib.Core.Bool.{Bool, true, false, _&&_}
+use mathlib.Core.Logic.{dite}
+use mathlib.Core.Path.{_≡_, subst}
+use Prim.Native.Nat.{ℕ, zero, suc, _<_}
+use native.Mathlib.Decide.{decLt}
+use native.Mathlib.Omega.{arith}
+use lib.Dec.{T}
+use Rattle.calendar.specs.Below.{everyBelow}
+
+pub left : (a b : Bool) → T (a && b) → T a
+left true b t = tt
+left false b t = t
+
+pub right : (a b : Bool) → T (a && b) → T b
+right true b t = t
+right false b t = absurd t
+
+pub every : (f : ℕ → Bool) (n : ℕ) → T (everyBelow f n) → (k : ℕ) → k < n → T (f k)
+every f zero t k h = absurd (omega arith)
+every f (suc n) t k h =
+    dite (decLt k n) (λ (l : k < n). every f n (right (f n) (everyBelow f n) t) k l)
+    (λ (g : k < n → ⊥). let e : n ≡ k = omega arith in subst (λ (m : ℕ). T (f m)) e (left (f n) (everyBelow f n) t))

@@ -1,0 +1,114 @@
+// Years and months: which are leap, how long they are, where they start.
+ghost use mathlib.Core.Path.{_≡_};
+ghost use mathlib.Core.Bool.{true};
+ghost use Prim.Native.Nat.{_≤_, _<_};
+ghost use lib.Dec.{ltb};
+ghost use Rattle.calendar.specs.Calendar.{leapYear, yearLength, yearStart, monthStart, monthLength, yearDay, monthDay, weekdayOf};
+
+// A year, and the days of it before a day.
+pub struct YearDay {
+    pub year: u64,
+    pub day: u64,
+}
+
+// A month, and the day of it, which counts from 1.
+pub struct MonthDay {
+    pub month: u64,
+    pub day: u64,
+}
+
+// The days of the year before each month, month 0 standing for no month.
+const COMMON: [u64; 13] = [0, 0, 31, 59, 90, 120, 151, 181, 212, 243, 273, 304, 334];
+
+const LEAP: [u64; 13] = [0, 0, 31, 60, 91, 121, 152, 182, 213, 244, 274, 305, 335];
+
+pub fn leap(year: u64) -> bool
+    ensures { λ r. ⌜ r ≡ leapYear year ⌝ }
+{
+    if year % 4 != 0 {
+        return false;
+    }
+    if year % 100 != 0 {
+        return true;
+    }
+    year % 400 == 0
+}
+
+pub fn length(year: u64) -> u64
+    ensures { λ r. ⌜ r ≡ yearLength year ⌝ }
+{
+    if leap(year) { 366 } else { 365 }
+}
+
+// The days of the year before its month.
+pub fn month_start(leap: bool, month: u64) -> u64
+    ensures { λ r. ⌜ r ≡ monthStart leap month ⌝ }
+{
+    if 12 < month {
+        return if leap { 366 } else { 365 };
+    }
+    let at = month as usize;
+    if leap { LEAP[at] } else { COMMON[at] }
+}
+
+// The days of a month; none of what is no month.
+pub fn month_length(leap: bool, month: u64) -> u64
+    ensures { λ r. ⌜ r ≡ monthLength leap month ⌝ }
+{
+    if 12 < month {
+        return 0;
+    }
+    month_start(leap, month + 1) - month_start(leap, month)
+}
+
+// The days before a year: of every four years one is leap, but for three of four centuries.
+pub(crate) fn start(year: u64) -> u64
+    requires { ⌜ (1 ≤ year) × (year ≤ 10000) ⌝ }
+    ensures { λ r. ⌜ r ≡ yearStart year ⌝ }
+{
+    let years = year - 1;
+    365 * years + years / 4 - years / 100 + years / 400
+}
+
+// The year of a day of the range: the years are counted one at a time.
+pub(crate) fn year_day(n: u64) -> YearDay
+    requires { ⌜ n < 3652059 ⌝ }
+    ensures { λ r. ⌜ r ≡ yearDay n ⌝ }
+{
+    let mut year = 1;
+    let mut rest = n;
+    let mut days = length(year);
+    while days <= rest {
+        rest = rest - days;
+        year = year + 1;
+        days = length(year);
+    }
+    YearDay { year, day: rest }
+}
+
+// The month of a day of a year: a month has at most 31 days and the twelve together at most 366, so it is the 32-day month that the
+// day would be in, or the next.
+pub(crate) fn month_day(leap: bool, day: u64) -> MonthDay
+    requires { ⌜ day < 366 ⌝ }
+    ensures { λ r. ⌜ r ≡ monthDay leap day ⌝ }
+{
+    let month = day / 32 + 1;
+    let next = month_start(leap, month + 1);
+    if next <= day {
+        return MonthDay {
+            month: month + 1,
+            day: day - next + 1,
+        };
+    }
+    MonthDay {
+        month,
+        day: day - month_start(leap, month) + 1,
+    }
+}
+
+// Sunday is 0.
+pub fn weekday(n: u64) -> u64
+    ensures { λ r. ⌜ r ≡ weekdayOf n ⌝ }
+{
+    (n % 7 + 1) % 7
+}
