@@ -1,0 +1,2 @@
+-- What C is answered, of the signed numbers that it hands in.
+pub mod Answers
