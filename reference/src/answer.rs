@@ -1,0 +1,43 @@
+//! The protocol: a request line and the answer line that document 01 wants for it.
+//! Decimal numbers, single spaces; "A refusal answers its number [..] and zeros for every other number".
+
+use crate::dates;
+
+/// Refusal 5: "number or date out of range [..]; also day, ISO and local-minute entry points".
+const OUT_OF_RANGE: &str = "5";
+
+/// The answer line, without LF; none if the line is no request.
+pub fn answer(request: &str) -> Option<String> {
+    let mut words = request.split(' ');
+    let name = words.next()?;
+    let numbers: Option<Vec<i64>> = words.map(|word| word.parse().ok()).collect();
+    match (name, numbers?.as_slice()) {
+        ("day_of_date", &[year, month, day]) => {
+            Some(one_number(dates::day_of_date(year, month, day)))
+        }
+        ("date_of_day", &[day]) => Some(three_numbers(
+            dates::date_of_day(day).map(|date| [date.year, date.month, date.day]),
+        )),
+        ("iso_of_day", &[day]) => Some(three_numbers(
+            dates::iso_of_day(day).map(|iso| [iso.year, iso.week, iso.weekday]),
+        )),
+        ("day_of_iso", &[year, week, weekday]) => {
+            Some(one_number(dates::day_of_iso(year, week, weekday)))
+        }
+        _ => None,
+    }
+}
+
+fn one_number(found: Option<i64>) -> String {
+    match found {
+        Some(number) => format!("0 {number}"),
+        None => format!("{OUT_OF_RANGE} 0"),
+    }
+}
+
+fn three_numbers(found: Option<[i64; 3]>) -> String {
+    match found {
+        Some([first, second, third]) => format!("0 {first} {second} {third}"),
+        None => format!("{OUT_OF_RANGE} 0 0 0"),
+    }
+}

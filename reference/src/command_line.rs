@@ -1,0 +1,73 @@
+//! The words of the command line.
+
+pub const USAGE: &str = "\
+usage: reference compare SUITE [--seed S] [--times N] -- DRIVER WORDS...
+       reference dump WHAT [--seed S] [--times N]
+       reference answer
+
+  compare  sends the requests of SUITE (dates) to the driver and compares its answers
+  dump     prints WHAT (dates, rules, cron or zones) for the programs in peers/
+  answer   is a driver itself: request lines on standard input, answer lines on standard output";
+
+/// The seed where none is given, so that a run without one can be repeated.
+const DEFAULT_SEED: u64 = 1;
+
+pub enum Command {
+    Compare {
+        suite: String,
+        options: Options,
+        driver: Vec<String>,
+    },
+    Dump {
+        what: String,
+        options: Options,
+    },
+    Answer,
+}
+
+/// `--times N` makes N times as many random cases.
+pub struct Options {
+    pub seed: u64,
+    pub times: u64,
+}
+
+/// None if the words are none of the usage.
+pub fn read(words: &[String]) -> Option<Command> {
+    let (name, rest) = words.split_first()?;
+    match name.as_str() {
+        "compare" => {
+            let (suite, rest) = rest.split_first()?;
+            let end = rest.iter().position(|word| word == "--")?;
+            Some(Command::Compare {
+                suite: suite.clone(),
+                options: read_options(&rest[..end])?,
+                driver: rest[end + 1..].to_vec(),
+            })
+        }
+        "dump" => {
+            let (what, rest) = rest.split_first()?;
+            Some(Command::Dump {
+                what: what.clone(),
+                options: read_options(rest)?,
+            })
+        }
+        "answer" if rest.is_empty() => Some(Command::Answer),
+        _ => None,
+    }
+}
+
+fn read_options(words: &[String]) -> Option<Options> {
+    let mut options = Options {
+        seed: DEFAULT_SEED,
+        times: 1,
+    };
+    for pair in words.chunks(2) {
+        let [name, value] = pair else { return None };
+        match name.as_str() {
+            "--seed" => options.seed = value.parse().ok()?,
+            "--times" => options.times = value.parse().ok()?,
+            _ => return None,
+        }
+    }
+    Some(options)
+}

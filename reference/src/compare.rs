@@ -1,0 +1,67 @@
+//! The comparison: every request's wanted answer against the driver's, field for field as a line.
+
+use crate::answer::answer;
+use crate::driver::{ask, Answers};
+
+/// Requests for one start of the driver.
+const BATCH: usize = 100_000;
+
+/// Differences that are shown; the others are only counted.
+const SHOWN: u64 = 20;
+
+#[derive(Default)]
+pub struct Tally {
+    pub compared: u64,
+    pub differ: u64,
+}
+
+impl Tally {
+    /// A run is good only if something was compared and nothing differs.
+    pub fn is_good(&self) -> bool {
+        self.compared > 0 && self.differ == 0
+    }
+
+    fn difference(&mut self, request: &str, wanted: &str, got: &str) {
+        self.differ += 1;
+        if self.differ <= SHOWN {
+            println!("differs: {request}\n  wanted: {wanted}\n  got:    {got}");
+        }
+    }
+}
+
+/// Sends all requests to the driver, batch by batch, and tallies the answers.
+pub fn compare(words: &[String], mut requests: impl Iterator<Item = String>) -> Tally {
+    let mut tally = Tally::default();
+    loop {
+        let batch: Vec<String> = requests.by_ref().take(BATCH).collect();
+        if batch.is_empty() {
+            return tally;
+        }
+        match ask(words, &batch) {
+            Ok(answers) => compare_batch(&mut tally, &batch, &answers),
+            Err(error) => {
+                tally.difference("(start of the driver)", "answers", &error.to_string());
+                return tally;
+            }
+        }
+    }
+}
+
+fn compare_batch(tally: &mut Tally, batch: &[String], answers: &Answers) {
+    let mut lines = answers.lines.iter();
+    for request in batch {
+        let wanted = answer(request).unwrap_or_else(|| "(no request of the protocol)".to_string());
+        let got = lines.next().map_or("(no answer)", String::as_str);
+        tally.compared += 1;
+        if got != wanted {
+            tally.difference(request, &wanted, got);
+        }
+    }
+    for line in lines {
+        tally.difference("(after the last request)", "(no answer)", line);
+    }
+    if !answers.status.success() {
+        let ended = answers.status.to_string();
+        tally.difference("(end of the driver)", "exit status: 0", &ended);
+    }
+}

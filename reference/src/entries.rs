@@ -1,0 +1,114 @@
+//! The answers of the entry points: "A refusal answers its number, its line or 0, and zeros for every other
+//! number".
+
+use std::cell::OnceCell;
+
+use crate::compile::plan_text;
+use crate::local::is_local_minute;
+use crate::meaning::Meaning;
+use crate::plan::{self, Plan};
+use crate::sheet::{self, Refusal};
+
+#[derive(Clone, Copy, Debug, Default, PartialEq, Eq)]
+pub struct Compiled {
+    pub number: u64,
+    pub line: u64,
+    pub length: u64,
+    pub bad_at: u64,
+    pub bad_length: u64,
+}
+
+#[derive(Clone, Copy, Debug, Default, PartialEq, Eq)]
+pub struct Found {
+    pub number: u64,
+    pub line: u64,
+    pub instant: i64,
+}
+
+/// The answer, and the plan that fills the buffer's front; nothing is written on a refusal.
+pub fn compile(sheet: &[u8], buffer_length: usize) -> (Compiled, String) {
+    let plan = sheet::read(sheet).map(|lines| plan_text(&lines));
+    // 9: "sheet is taken but the plan is longer than the lent buffer; line 0"
+    let fitting = plan.and_then(|text| match text.len() <= buffer_length {
+        true => Ok(text),
+        false => Err(Refusal::without_line(9, 0)),
+    });
+    match fitting {
+        Ok(text) => {
+            let length = text.len() as u64;
+            let compiled = Compiled {
+                length,
+                ..Compiled::default()
+            };
+            (compiled, text)
+        }
+        Err(refusal) => (refused(refusal), String::new()),
+    }
+}
+
+fn refused(refusal: Refusal) -> Compiled {
+    Compiled {
+        number: refusal.number,
+        line: refusal.line,
+        length: 0,
+        bad_at: refusal.bad_at,
+        bad_length: refusal.bad_length,
+    }
+}
+
+/// A plan as the entry points see it: taken, or the line of refusal 10. Its meaning is made when first asked for.
+pub struct Loaded {
+    plan: Result<Plan, u64>,
+    meaning: OnceCell<Meaning>,
+}
+
+impl Loaded {
+    pub fn new(plan: &[u8]) -> Loaded {
+        Loaded {
+            plan: plan::read(plan),
+            meaning: OnceCell::new(),
+        }
+    }
+
+    /// The load check: 0, or 10 and its line; the instant is 0.
+    pub fn check(&self) -> Found {
+        self.found(|_| Ok(0))
+    }
+
+    /// "Next and previous: 10, then 11."
+    pub fn next(&self, asked: i64) -> Found {
+        self.found(|plan| self.meaning(plan).next(asked).ok_or(11))
+    }
+
+    pub fn previous(&self, asked: i64) -> Found {
+        self.found(|plan| self.meaning(plan).previous(asked).ok_or(11))
+    }
+
+    /// "A local minute mapped by a plan's zone: 10, then 5."
+    pub fn instant_of_local(&self, minute: i64) -> Found {
+        self.found(|plan| match is_local_minute(minute) {
+            true => Ok(plan.zone.instant_of(minute)),
+            false => Err(5),
+        })
+    }
+
+    fn meaning(&self, plan: &Plan) -> &Meaning {
+        self.meaning.get_or_init(|| plan::of_plan(plan))
+    }
+
+    /// 10 and its line first; then the search's own number, with line 0; else the instant.
+    fn found(&self, search: impl Fn(&Plan) -> Result<i64, u64>) -> Found {
+        let (number, line, instant) = match &self.plan {
+            Err(line) => (10, *line, 0),
+            Ok(plan) => match search(plan) {
+                Err(number) => (number, 0, 0),
+                Ok(instant) => (0, 0, instant),
+            },
+        };
+        Found {
+            number,
+            line,
+            instant,
+        }
+    }
+}

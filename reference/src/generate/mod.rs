@@ -1,0 +1,75 @@
+//! Random sheets that are taken: for tests, for the peers and for comparisons.
+
+mod cron;
+mod rule;
+mod zones;
+
+pub use cron::cron_line;
+pub use rule::rule_line;
+pub use zones::zone_lines;
+
+use crate::local::{written, FIRST_MINUTE, LAST_MINUTE};
+use crate::meaning::{of_sheet, Meaning};
+use crate::random::Random;
+use crate::sheet::{read, zone_of};
+use crate::zone::Zone;
+
+/// A sheet with some lines of every kind. Excepted times are often held ones.
+pub fn sheet(random: &mut Random) -> String {
+    let mut lines = zone_lines(random);
+    for _ in 0..random.between(0, 5) {
+        lines.push(match random.between(0, 4) {
+            0 | 1 => cron_line(random),
+            _ => rule_line(random),
+        });
+    }
+    let Ok(taken) = read(text_of(&lines).as_bytes()) else {
+        return text_of(&lines); // a sheet that is not taken is for the caller to see
+    };
+    let meaning = of_sheet(&taken);
+    for _ in 0..random.between(0, 5) {
+        let extra = near_a_transition(&meaning.zone, random);
+        lines.push(format!("D {}", written(extra)));
+    }
+    for _ in 0..random.between(0, 5) {
+        let excepted = held_or_any(&meaning, random);
+        lines.push(format!("X {}", written(excepted)));
+    }
+    text_of(&lines)
+}
+
+/// A sheet of 64 lines: a zone with few transitions, and extra times that crowd around them.
+pub fn crowded_sheet(random: &mut Random) -> String {
+    let mut lines = zone_lines(random);
+    lines.truncate(4);
+    let zone = zone_of(&read(text_of(&lines).as_bytes()).unwrap_or_default());
+    while lines.len() < 64 {
+        let extra = near_a_transition(&zone, random);
+        lines.push(format!("D {}", written(extra)));
+    }
+    text_of(&lines)
+}
+
+fn text_of(lines: &[String]) -> String {
+    lines.iter().map(|line| format!("{line}\n")).collect()
+}
+
+/// A local minute near a transition of the zone, any if there is none.
+pub fn near_a_transition(zone: &Zone, random: &mut Random) -> i64 {
+    let chosen = random.between(0, zone.transitions.len().max(1) as i64 - 1);
+    match zone.transitions.get(chosen as usize) {
+        Some(transition) => {
+            let shown = transition.instant + transition.offset + random.between(-400, 400);
+            shown.clamp(FIRST_MINUTE, LAST_MINUTE)
+        }
+        None => random.between(FIRST_MINUTE, LAST_MINUTE),
+    }
+}
+
+fn held_or_any(meaning: &Meaning, random: &mut Random) -> i64 {
+    let any = match random.between(0, 1) {
+        0 => near_a_transition(&meaning.zone, random),
+        _ => random.between(FIRST_MINUTE, LAST_MINUTE),
+    };
+    meaning.minutes.rising_from(any).next().unwrap_or(any)
+}

@@ -1,0 +1,20 @@
+//! The independent reference program: everything that document 01 asks for, by the plainest method,
+//! sharing nothing with the code under test.
+
+pub mod answer;
+pub mod cases_dates;
+pub mod command_line;
+pub mod compare;
+pub mod compile;
+pub mod dates;
+pub mod driver;
+pub mod dump;
+pub mod entries;
+pub mod generate;
+pub mod local;
+pub mod meaning;
+pub mod minutes;
+pub mod plan;
+pub mod random;
+pub mod sheet;
+pub mod zone;

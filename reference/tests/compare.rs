@@ -1,0 +1,65 @@
+//! The comparison itself: the reference as a driver agrees, and each kind of wrong driver is caught.
+
+use reference::cases_dates;
+use reference::compare::{compare, Tally};
+
+const BINARY: &str = env!("CARGO_BIN_EXE_reference");
+const ASKED: u64 = 1000;
+
+/// The outcome for a driver that is a shell line, in which `REFERENCE` answers rightly.
+fn tally(shell_line: &str) -> Tally {
+    let line = shell_line.replace("REFERENCE", &format!("'{BINARY}' answer"));
+    let words = ["sh", "-c", line.as_str()].map(str::to_string);
+    compare(&words, cases_dates::requests(1, 0).take(ASKED as usize))
+}
+
+#[test]
+fn a_right_driver_is_good() {
+    let tally = tally("REFERENCE");
+    assert!(tally.is_good());
+    assert_eq!(tally.compared, ASKED);
+}
+
+#[test]
+fn a_wrong_answer_is_caught() {
+    assert_eq!(tally("REFERENCE | sed '7s/$/0/'").differ, 1);
+    assert_eq!(tally("REFERENCE | sed '7s/$/ /'").differ, 1);
+    assert_eq!(tally("cat").differ, ASKED);
+}
+
+#[test]
+fn too_few_answers_are_caught() {
+    assert_eq!(tally("REFERENCE | head -n 990").differ, 10);
+    assert_eq!(tally("true").differ, ASKED);
+}
+
+#[test]
+fn too_many_answers_are_caught() {
+    assert!(!tally("REFERENCE; echo 0 0").is_good());
+    assert!(!tally("yes").is_good());
+}
+
+#[test]
+fn a_tail_without_lf_is_caught() {
+    assert_eq!(tally("REFERENCE | head -c -1").differ, 1);
+}
+
+#[test]
+fn an_early_death_is_caught() {
+    assert_eq!(tally("REFERENCE; exit 3").differ, 1);
+    assert_eq!(tally("REFERENCE; kill -9 $$").differ, 1);
+    assert!(!tally("exit 1").is_good());
+}
+
+#[test]
+fn a_driver_that_cannot_start_is_caught() {
+    let words = ["no-such-driver".to_string()];
+    assert!(!compare(&words, cases_dates::requests(1, 0).take(9)).is_good());
+    assert!(!compare(&[], cases_dates::requests(1, 0).take(9)).is_good());
+}
+
+#[test]
+fn nothing_compared_is_not_good() {
+    let words = ["true".to_string()];
+    assert!(!compare(&words, std::iter::empty()).is_good());
+}
