@@ -1,0 +1,2 @@
+-- The plan that a taken sheet compiles to.
+pub mod Compiled

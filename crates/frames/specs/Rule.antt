@@ -1,0 +1,68 @@
+-- "Rules", read from the fields of a frame; nothing is counted but places within a month.
+use mathlib.Core.Bool.{Bool, true, false, cond, _&&_, _||_}
+use Prim.Native.Nat.{ℕ, _+_, _-_, _/_, _%_, _^_}
+use lib.Dec.{leb, eqb}
+use Rattle.calendar.specs.Below.{countFrom}
+use Rattle.calendar.specs.Window.{monthFirst, localDate, localWeekday, localWeek, fromEnd}
+use Rattle.masks.specs.Masks.{bit}
+use Rattle.frames.specs.declared.Ends.{Ends}
+use Rattle.frames.specs.declared.Rule.{Rule}
+
+-- "A zero month-day pair, weekday group or position pair means no such limit."
+abbrev pub noLimit : Ends → Bool
+noLimit e = eqb (e .front) 0 && eqb (e .back) 0
+
+-- "`-1` as month day is the last day."
+unfoldable pub monthDayAllowed : Rule → ℕ → Bool
+monthDayAllowed f d = noLimit (f .days) || (bit (f .days .front) (localDate d .day) || bit (f .days .back) (fromEnd d))
+
+-- the how-manieth of its weekday a day is that has this place in its month
+abbrev pub ordinalOf : ℕ → ℕ
+ordinalOf place = (place - 1) / 7 + 1
+
+-- the weekday mask of ordinal n
+abbrev pub ordinalMask : ℕ → ℕ → ℕ
+ordinalMask group n = group / 256 ^ (5 - n) % 256
+
+-- "An ordinal weekday is counted within the month, from its end if negative. A weekday list matches if any entry does."
+unfoldable pub weekdayAllowed : Rule → ℕ → Bool
+weekdayAllowed f d =
+    eqb (f .weekdays) 0 && noLimit (f .ordinals)
+    || (bit (f .weekdays) (localWeekday d)
+    || (bit (ordinalMask (f .ordinals .front) (ordinalOf (localDate d .day))) (localWeekday d)
+    || bit (ordinalMask (f .ordinals .back) (ordinalOf (fromEnd d))) (localWeekday d)))
+
+-- the period's day set: days that satisfy each limit that is given
+unfoldable pub inSet : Rule → ℕ → Bool
+inSet f d = monthDayAllowed f d && weekdayAllowed f d
+
+-- "BYSETPOS picks from the period's whole rising day set, days before the start included; a place that does not exist picks nothing."
+-- Only monthly frames have positions, so the period is the day's month.
+unfoldable pub placed : Rule → ℕ → Bool
+placed f d =
+    let q = localDate d in
+    elim (noLimit (f .positions)) [
+      | true ↦ true
+      | false ↦ bit (f .positions .front) (countFrom (inSet f) (q .day) (monthFirst (q .month)))
+          || bit (f .positions .back) (countFrom (inSet f) (fromEnd d) d)
+    ]
+
+-- "Periods are days, Monday weeks or months."
+unfoldable pub period : Rule → ℕ → ℕ
+period f d = cond (eqb (f .frequency) 1) d (cond (eqb (f .frequency) 2) (localWeek d) (localDate d .month))
+
+-- "Period 0 holds the start; every INTERVAL-th from there counts."
+unfoldable pub counts : Rule → ℕ → Bool
+counts f d = eqb ((period f d - period f (f .start / 1440)) % f .interval) 0
+
+-- "Drop what is before the start."
+unfoldable pub ruleDay : Rule → ℕ → Bool
+ruleDay f d = leb (f .start / 1440) d && (counts f d && (inSet f d && placed f d))
+
+-- "The time of day is the start's."
+unfoldable pub ruleOccurs : Rule → ℕ → Bool
+ruleOccurs f m = ruleDay f (m / 1440) && eqb (m % 1440) (f .start % 1440)
+
+-- and no later than *last*
+unfoldable pub ruleHeld : Rule → ℕ → Bool
+ruleHeld f m = ruleOccurs f m && leb m (f .last)

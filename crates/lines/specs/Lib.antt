@@ -1,0 +1,3 @@
+-- A text as lines.
+pub mod Bytes
+pub mod Lines

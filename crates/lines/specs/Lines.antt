@@ -1,0 +1,21 @@
+-- "Each line .. and then LF (0A)."
+use mathlib.Core.Bool.{true, false}
+use mathlib.Core.List.{List, [], _∷_}
+use Prim.Native.Nat.{ℕ}
+use lib.Dec.{eqb}
+
+-- the lines of a text, each without its LF, and what stands after the last LF
+pub record Lines : Type 0 where
+  pub whole : List (List ℕ)
+  pub tail : List ℕ
+
+-- a byte before the first line
+abbrev pub before : ℕ → List (List ℕ) → List ℕ → Lines
+before c [] tail = record { whole = []; tail = c ∷ tail }
+before c (line ∷ more) tail = record { whole = (c ∷ line) ∷ more; tail = tail }
+
+unfoldable pub linesOf : List ℕ → Lines
+linesOf [] = record { whole = []; tail = [] }
+linesOf (c ∷ cs) =
+    let rest = linesOf cs in
+    elim (eqb c 10) [ true ↦ record { whole = [] ∷ rest .whole; tail = rest .tail } | false ↦ before c (rest .whole) (rest .tail) ]

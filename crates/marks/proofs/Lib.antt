@@ -1,0 +1,2 @@
+-- The marked cases hold of the written meanings.
+pub mod Marked

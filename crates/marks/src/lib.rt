@@ -1,0 +1,1 @@
+// The marked cases: nothing to run.

@@ -1,0 +1,2 @@
+-- Masks: bit n stands for n.
+pub mod Masks

@@ -1,0 +1,2 @@
+-- What the plans of the bench list hold.
+pub mod Cases

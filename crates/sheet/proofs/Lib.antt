@@ -1,0 +1,2 @@
+-- What the sheets of the bench list hold.
+pub mod Cases

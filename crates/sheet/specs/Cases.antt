@@ -1,0 +1,97 @@
+-- Sheets of document 01's bench list and of its "Errors we have seen", and what they hold, as tests that compute.
+use mathlib.Core.Bool.{Bool, _&&_, _||_, Bool·beq}
+use mathlib.Core.List.{List, []}
+use Prim.Native.Nat.{ℕ, _+_, _*_}
+use Prim.Native.String.{String}
+use lib.Dec.{eqb}
+use Rattle.calendar.specs.Below.{everyBelow, countFrom}
+use Rattle.calendar.specs.Window.{localDate, localWeekday}
+use Rattle.lines.specs.Bytes.{bytes}
+use Rattle.zone.specs.Zone.{instantOf}
+use Rattle.sheet.specs.Form.{Form}
+use Rattle.sheet.specs.Meaning.{sheetHeld, sheetZone}
+use Rattle.sheet.specs.Range.{minuteOf}
+use Rattle.sheet.specs.Refusals.{Sheet, taken, refused, readSheet}
+
+-- the forms of a taken sheet's lines; a refused sheet has none
+abbrev pub formsOf : Sheet → List Form
+formsOf (taken fs) = fs
+formsOf (refused n k) = []
+
+abbrev pub sheet : String → List Form
+sheet text = formsOf (readSheet (bytes text))
+
+-- the local minute of a date and a time
+abbrev pub minute : ℕ → ℕ → ℕ → ℕ → ℕ → ℕ
+minute y mo d h mi = minuteOf (record { year = y; month = mo; day = d; hour = h; minute = mi })
+
+-- a sheet holds a local minute, and it becomes this instant
+abbrev pub isInstant : List Form → ℕ → ℕ → Bool
+isInstant fs m i = sheetHeld fs m && eqb (instantOf (sheetZone fs) m) (i + 1440)
+
+-- how many of the k local minutes from m on, a day apart, are held
+abbrev pub heldDays : List Form → ℕ → ℕ → ℕ
+heldDays fs k m = countFrom (λ d. sheetHeld fs (m + 1440 * d)) k 0
+
+unfoldable pub example : List Form
+example = sheet "Z +0100\nT 20260329T0100 +0200\nT 20261025T0100 +0100\nC 30 2 * * *\n"
+
+unfoldable pub thirds : List Form
+thirds = sheet "Z +0000\nR 20260131T0600 FREQ=MONTHLY;COUNT=3\n"
+
+unfoldable pub workdays : List Form
+workdays = sheet "Z +0000\nR 20260130T0600 FREQ=MONTHLY;BYDAY=MO,TU,WE,TH,FR;BYSETPOS=-1\n"
+
+unfoldable pub fridays : List Form
+fridays = sheet "Z +0000\nC 0 0 13 * 5\n"
+
+-- (h) "in the example, 2026-03-29 02:30 is instant 13,801,050"
+unfoldable pub caseH : Bool
+unfolding example
+caseH = isInstant example (minute 2026 3 29 2 30) 13801050
+
+-- (i) "2026-10-25 02:30 is 14,103,390, once": of the day's minutes no other is held
+unfoldable pub caseI : Bool
+unfolding example
+caseI =
+    isInstant example (minute 2026 10 25 2 30) 14103390
+    && eqb (countFrom (sheetHeld example) 1440 (minute 2026 10 25 0 0)) 1
+
+-- (j) "31 January, March, May": those of the days of 2026 and 2027 and no other
+unfoldable pub caseJ : Bool
+unfolding thirds
+caseJ =
+    sheetHeld thirds (minute 2026 1 31 6 0)
+    && (sheetHeld thirds (minute 2026 3 31 6 0)
+    && (sheetHeld thirds (minute 2026 5 31 6 0) && eqb (heldDays thirds 730 (minute 2026 1 1 6 0)) 3))
+
+-- (k) "goes on to 27 February and 31 March": those and 30 January of the 90 days from 1 January on
+unfoldable pub caseK : Bool
+unfolding workdays
+caseK =
+    sheetHeld workdays (minute 2026 1 30 6 0)
+    && (sheetHeld workdays (minute 2026 2 27 6 0)
+    && (sheetHeld workdays (minute 2026 3 31 6 0) && eqb (heldDays workdays 90 (minute 2026 1 1 6 0)) 3))
+
+-- (l) "`0 0 13 * 5` holds every 13th and every Friday": of k days from a local day on, at midnight
+unfoldable pub caseL : ℕ → ℕ → Bool
+unfolding fridays
+caseL k from =
+    everyBelow
+    (λ e.
+    let d = from + e in
+    Bool·beq (sheetHeld fridays (1440 * d)) (eqb (localDate d .day) 13 || eqb (localWeekday d) 5))
+    k
+
+-- "`1-31` is restricted": with Fridays it holds every day of a year
+unfoldable pub caseRange : Bool
+caseRange = eqb (heldDays (sheet "Z +0000\nC 0 0 1-31 * 5\n") 365 (minute 2026 1 1 0 0)) 365
+
+-- "days before the start included": Monday 5 January 2026 is that month's third workday
+unfoldable pub casePlace : Bool
+casePlace = sheetHeld (sheet "Z +0000\nR 20260105T0600 FREQ=MONTHLY;BYDAY=MO,TU,WE,TH,FR;BYSETPOS=3\n") (minute 2026 1 5 6 0)
+
+-- "X does not give a COUNT back": 31 January and May are left
+unfoldable pub caseExcept : Bool
+caseExcept =
+    eqb (heldDays (sheet "Z +0000\nR 20260131T0600 FREQ=MONTHLY;COUNT=3\nX 20260331T0600\n") 365 (minute 2026 1 1 6 0)) 2

@@ -1,0 +1,4 @@
+pub struct Transition {
+    pub at: u64,
+    pub offset: u64,
+}
