@@ -2,6 +2,8 @@
 //! Decimal numbers, single spaces; "A refusal answers its number [..] and zeros for every other number".
 
 use crate::dates;
+use crate::local::{is_local_minute, LAST_MINUTE};
+use crate::zone::{Transition, Zone, MOST_TRANSITIONS, OFFSETS};
 
 /// Refusal 5: "number or date out of range [..]; also day, ISO and local-minute entry points".
 const OUT_OF_RANGE: &str = "5";
@@ -24,8 +26,64 @@ pub fn answer(request: &str) -> Option<String> {
         ("day_of_iso", &[year, week, weekday]) => {
             Some(one_number(dates::day_of_iso(year, week, weekday)))
         }
+        ("locals" | "offsets", numbers) => zone_answer(name, numbers),
         _ => None,
     }
+}
+
+/// The instants of local minutes or the offsets at instants of a zone, or where and why the zone is refused.
+fn zone_answer(name: &str, numbers: &[i64]) -> Option<String> {
+    let &[first_offset, count, ref pairs @ .., from, asked] = numbers else {
+        return None;
+    };
+    if pairs.len() as i64 != 2 * count {
+        return None;
+    }
+    let zone = match read_zone(first_offset, pairs) {
+        Ok(zone) => zone,
+        Err(refusal) => return Some(refusal),
+    };
+    let values = (from..from + asked).map(|n| match name {
+        "locals" if is_local_minute(n) => zone.instant_of(n).to_string(),
+        "locals" => "-".to_string(),
+        _ => zone.offset_at(n).to_string(),
+    });
+    Some(
+        ["0 0".to_string()]
+            .into_iter()
+            .chain(values)
+            .collect::<Vec<_>>()
+            .join(" "),
+    )
+}
+
+/// "4: a 33rd T", "5: number out of range", "7: transition limits", with the number of the transition.
+fn read_zone(first_offset: i64, pairs: &[i64]) -> Result<Zone, String> {
+    if !OFFSETS.contains(&first_offset) {
+        return Err("5 0".to_string());
+    }
+    let mut zone = Zone {
+        first_offset,
+        transitions: Vec::new(),
+    };
+    for (k, pair) in pairs.chunks(2).enumerate() {
+        let next = Transition {
+            instant: pair[0],
+            offset: pair[1],
+        };
+        let in_range = (0..=LAST_MINUTE).contains(&next.instant) && OFFSETS.contains(&next.offset);
+        let number = match () {
+            () if zone.transitions.len() == MOST_TRANSITIONS => 4,
+            () if !in_range => 5,
+            () if !zone.allows(&next) => 7,
+            () => 0,
+        };
+        if number != 0 {
+            return Err(format!("{number} {}", k + 1));
+        }
+        zone.transitions.push(next);
+    }
+    Ok(zone)
 }
 
 fn one_number(found: Option<i64>) -> String {

@@ -3,10 +3,12 @@
 pub const USAGE: &str = "\
 usage: reference compare SUITE [--seed S] [--times N] -- DRIVER WORDS...
        reference dump WHAT [--seed S] [--times N]
+       reference dump meanings [--seed S] [--sheets N] [--plans N]
        reference answer
 
-  compare  sends the requests of SUITE (dates) to the driver and compares its answers
-  dump     prints WHAT (dates, rules, cron or zones) for the programs in peers/
+  compare  sends the requests of SUITE (dates or zones) to the driver and compares its answers
+  dump     prints WHAT (dates, rules, cron or zones) for the programs in peers/, or sheets and plans with
+           their answers for tools/try-meanings
   answer   is a driver itself: request lines on standard input, answer lines on standard output";
 
 /// The seed where none is given, so that a run without one can be repeated.
@@ -25,10 +27,12 @@ pub enum Command {
     Answer,
 }
 
-/// `--times N` makes N times as many random cases.
+/// `--times N` makes N times as many random cases; `--sheets N` and `--plans N` so many.
 pub struct Options {
     pub seed: u64,
     pub times: u64,
+    pub sheets: u64,
+    pub plans: u64,
 }
 
 /// None if the words are none of the usage.
@@ -60,12 +64,16 @@ fn read_options(words: &[String]) -> Option<Options> {
     let mut options = Options {
         seed: DEFAULT_SEED,
         times: 1,
+        sheets: 200,
+        plans: 200,
     };
     for pair in words.chunks(2) {
         let [name, value] = pair else { return None };
         match name.as_str() {
             "--seed" => options.seed = value.parse().ok()?,
             "--times" => options.times = value.parse().ok()?,
+            "--sheets" => options.sheets = value.parse().ok()?,
+            "--plans" => options.plans = value.parse().ok()?,
             _ => return None,
         }
     }

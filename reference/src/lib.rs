@@ -3,6 +3,7 @@
 
 pub mod answer;
 pub mod cases_dates;
+pub mod cases_zones;
 pub mod command_line;
 pub mod compare;
 pub mod compile;
@@ -11,8 +12,10 @@ pub mod driver;
 pub mod dump;
 pub mod entries;
 pub mod generate;
+pub mod hex;
 pub mod local;
 pub mod meaning;
+pub mod meanings;
 pub mod minutes;
 pub mod plan;
 pub mod random;

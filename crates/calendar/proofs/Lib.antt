@@ -6,3 +6,4 @@ pub mod Dates
 pub mod Isos
 pub mod Windows
 pub mod Weekdays
+pub mod Leasts

@@ -1,7 +1,7 @@
 -- Weekdays: they advance by one, and are those of the signed day number and of the ISO week.
 use mathlib.Core.Bool.{false}
-use mathlib.Core.Path.{_≡_, sym, ap, _∙_}
-use Prim.Native.Nat.{ℕ, suc, _+_, _-_, _*_, _%_, _<_}
+use mathlib.Core.Path.{_≡_, refl, sym, ap, _∙_}
+use Prim.Native.Nat.{ℕ, suc, _+_, _-_, _*_, _/_, _%_, _<_}
 use native.Mathlib.Nat.{add-mul-mod-self-left}
 use native.Mathlib.Omega.{arith}
 use borrow.Author.Tests.{ltb-false}
@@ -9,7 +9,8 @@ use lib.IntN.{ℤ, pos, negsuc}
 use lib.Signed.{ltZ}
 use Rattle.signed.specs.Bias.{lift, biasDay}
 use Rattle.calendar.specs.Calendar.{weekdayOf, weekdayOfDay}
-use Rattle.calendar.specs.Iso.{isoYear, isoOf}
+use Rattle.calendar.specs.Iso.{mondayOf, isoYear, isoOf}
+use Rattle.calendar.specs.Window.{localWeek, localWeekday}
 use Rattle.calendar.proofs.Isos.{iso-start-near, iso-year-holds}
 
 -- weekdays advance by one
@@ -35,3 +36,16 @@ weekday-of-signed z l h = simp (l, h) (lifted z l)
 pub iso-weekday : (n : ℕ) → n < 3652059 → isoOf n .weekday ≡ (weekdayOf n + 6) % 7 + 1
 unfolding isoOf weekdayOf
 iso-weekday n h = omega (arith, iso-start-near (isoYear n) .monday, iso-year-holds n h .from)
+
+pub weekday-below : (n : ℕ) → weekdayOf n < 7
+unfolding weekdayOf
+weekday-below n = omega arith
+
+-- the weeks of the window: whole sevens of the days since 0001-01-01, a Monday
+pub local-week : (n : ℕ) → localWeek n ≡ (730119 + n) / 7
+unfolding localWeek mondayOf weekdayOf
+local-week n = omega arith
+
+pub local-weekday : (n : ℕ) → localWeekday n ≡ weekdayOf (730119 + n)
+unfolding localWeekday
+local-weekday n = refl

@@ -6,13 +6,13 @@ use Prim.Native.Nat.{ℕ, zero, suc, _+_, _-_, _*_, _/_, _%_, _<_, _≤_}
 use native.Mathlib.Decide.{decLt}
 use native.Mathlib.Omega.{arith}
 use borrow.Author.Tests.{lt-ltb, eqb-true, eqb-false}
-use lib.Dec.{T, eqb, eqb→eq}
-use Rattle.calendar.specs.Below.{everyBelow}
+use lib.Dec.{T, leb, leb→le, eqb, eqb→eq}
+use Rattle.calendar.specs.Below.{everyBelow, within}
 use Rattle.calendar.specs.Calendar.{divides, leapYear, monthStart, monthLength, yearLength, yearsBefore, yearStart, dayOf, dateOf, monthDay}
 use Rattle.calendar.specs.Window.{windowYear, monthFirst, monthDays, localDate}
 use Rattle.calendar.specs.declared.year.MonthDay.{MonthDay}
 use Rattle.calendar.proofs.Dates.{Valid, date-of-day-of-date}
-use Rattle.calendar.proofs.Every.{every}
+use Rattle.calendar.proofs.Every.{left, right, every}
 use Rattle.calendar.proofs.Months.{InMonth, month-day-holds, month-day-same}
 use Rattle.calendar.proofs.Years.{trichotomy}
 
@@ -118,6 +118,20 @@ month-first-mono j (suc k) h l =
 pub month-first-end : monthFirst 1200 ≡ 36525
 unfolding monthFirst
 month-first-end = refl
+
+-- a month has 28 to 31 days
+common-length : ℕ → Bool
+common-length k = within 28 31 (monthDays k)
+
+all-common-length : T (everyBelow common-length 1200)
+unfolding common-length monthDays monthLength
+all-common-length = tt
+
+pub month-days-range : (k : ℕ) → k < 1200 → (28 ≤ monthDays k) × (monthDays k ≤ 31)
+unfolding common-length
+month-days-range k h =
+    let t : T (within 28 31 (monthDays k)) = every common-length 1200 all-common-length k h in
+    (leb→le _ _ (left (leb 28 (monthDays k)) _ t), leb→le _ _ (right (leb 28 (monthDays k)) _ t))
 
 -- the place of a local day in its year
 abbrev yearOf : ℕ → ℕ

@@ -25,3 +25,13 @@ anyOf test (x ∷ xs) = test x || anyOf test xs
 abbrev pub allOf : {A : Type 0} → (A → Bool) → List A → Bool
 allOf test [] = true
 allOf test (x ∷ xs) = test x && allOf test xs
+
+-- the least of the k numbers from i on that passes the test; the first past them where none does
+unfoldable pub leastFrom : (ℕ → Bool) → ℕ → ℕ → ℕ
+leastFrom test zero i = i
+leastFrom test (suc k) i = elim (test i) [ true ↦ i | false ↦ leastFrom test k (suc i) ]
+
+-- one more than the greatest of the k numbers from i on that passes the test; i where none does
+unfoldable pub lastFrom : (ℕ → Bool) → ℕ → ℕ → ℕ
+lastFrom test zero i = i
+lastFrom test (suc k) i = elim (test (i + k)) [ true ↦ i + k + 1 | false ↦ lastFrom test k i ]

@@ -3,3 +3,4 @@ pub mod Below
 pub mod Calendar
 pub mod Iso
 pub mod Window
+pub mod Open

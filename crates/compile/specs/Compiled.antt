@@ -11,6 +11,7 @@ use Rattle.frames.specs.declared.Cron.{Cron}
 use Rattle.frames.specs.declared.Ends.{Ends}
 use Rattle.frames.specs.declared.Rule.{Rule}
 use Rattle.lines.specs.Lines.{linesOf}
+use Rattle.masks.specs.Masks.{maskFrom}
 use Rattle.plan.specs.Text.{planText}
 use Rattle.plan.specs.declared.Frame.{Frame}
 use Rattle.sheet.specs.Form.{Field, Entry, plain, ordinal, Frequency, daily, weekly, monthly, Form, zone, change, cron, rule, extra, except}
@@ -19,11 +20,6 @@ use Rattle.sheet.specs.Parts.{Given, givenOf}
 use Rattle.sheet.specs.Range.{minuteOf, instantOfTime, offsetOfShift}
 use Rattle.sheet.specs.Refusals.{taken, refused, readSheet, badAt, badLength}
 use Rattle.sheet.specs.Words.{Signed}
-
--- "Bit n of a mask stands for n": the mask of those of the k numbers from n on that pass a test
-unfoldable pub maskFrom : (ℕ → Bool) → ℕ → ℕ → ℕ
-maskFrom test zero n = 0
-maskFrom test (suc k) n = cond (test n) (2 ^ n) 0 + maskFrom test k (suc n)
 
 -- "flags 1 (bit 0 day of month restricted, bit 1 day of week restricted)"
 unfoldable pub cronFrame : Field → Field → Field → Field → Field → Cron

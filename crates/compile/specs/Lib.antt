@@ -1,2 +1,3 @@
 -- The plan that a taken sheet compiles to.
 pub mod Compiled
+pub mod Open

@@ -1,2 +1,3 @@
 -- What C is answered, of the signed numbers that it hands in.
 pub mod Answers
+pub mod Open

@@ -7,12 +7,14 @@ use Rattle.frames.specs.declared.Cron.{Cron}
 
 -- "A local minute is held if minute, hour and month match and the day does:
 -- if day of month and day of week are both restricted, either suffices; else both must match."
+unfoldable pub cronDayAt : Cron → ℕ → ℕ → ℕ → Bool
+cronDayAt f month day weekday =
+    let dayOk = bit (f .days) day in
+    let weekdayOk = bit (f .weekdays) weekday in
+    bit (f .months) month && cond (bit (f .flags) 0 && bit (f .flags) 1) (dayOk || weekdayOk) (dayOk && weekdayOk)
+
 unfoldable pub cronDay : Cron → ℕ → Bool
-cronDay f d =
-    let day = bit (f .days) (localDate d .day) in
-    let weekday = bit (f .weekdays) (localWeekday d) in
-    bit (f .months) (localDate d .month % 12 + 1)
-    && cond (bit (f .flags) 0 && bit (f .flags) 1) (day || weekday) (day && weekday)
+cronDay f d = cronDayAt f (localDate d .month % 12 + 1) (localDate d .day) (localWeekday d)
 
 -- t is a minute of the day, 0 to 1,439
 unfoldable pub cronTime : Cron → ℕ → Bool

@@ -1,3 +1,6 @@
 -- What a cron or rule frame holds, over local days and local minutes.
 pub mod Cron
 pub mod Rule
+pub mod Numbers
+pub mod Steps
+pub mod Open

@@ -12,9 +12,9 @@ use Rattle.frames.specs.declared.Rule.{Rule}
 abbrev pub noLimit : Ends → Bool
 noLimit e = eqb (e .front) 0 && eqb (e .back) 0
 
--- "`-1` as month day is the last day."
-unfoldable pub monthDayAllowed : Rule → ℕ → Bool
-monthDayAllowed f d = noLimit (f .days) || (bit (f .days .front) (localDate d .day) || bit (f .days .back) (fromEnd d))
+-- a day of the month, from the front and from the end: "`-1` as month day is the last day"
+unfoldable pub monthDayAllowed : Rule → ℕ → ℕ → Bool
+monthDayAllowed f day back = noLimit (f .days) || (bit (f .days .front) day || bit (f .days .back) back)
 
 -- the how-manieth of its weekday a day is that has this place in its month
 abbrev pub ordinalOf : ℕ → ℕ
@@ -25,16 +25,15 @@ abbrev pub ordinalMask : ℕ → ℕ → ℕ
 ordinalMask group n = group / 256 ^ (5 - n) % 256
 
 -- "An ordinal weekday is counted within the month, from its end if negative. A weekday list matches if any entry does."
-unfoldable pub weekdayAllowed : Rule → ℕ → Bool
-weekdayAllowed f d =
+unfoldable pub weekdayAllowed : Rule → ℕ → ℕ → ℕ → Bool
+weekdayAllowed f day back weekday =
     eqb (f .weekdays) 0 && noLimit (f .ordinals)
-    || (bit (f .weekdays) (localWeekday d)
-    || (bit (ordinalMask (f .ordinals .front) (ordinalOf (localDate d .day))) (localWeekday d)
-    || bit (ordinalMask (f .ordinals .back) (ordinalOf (fromEnd d))) (localWeekday d)))
+    || (bit (f .weekdays) weekday
+    || (bit (ordinalMask (f .ordinals .front) (ordinalOf day)) weekday || bit (ordinalMask (f .ordinals .back) (ordinalOf back)) weekday))
 
 -- the period's day set: days that satisfy each limit that is given
 unfoldable pub inSet : Rule → ℕ → Bool
-inSet f d = monthDayAllowed f d && weekdayAllowed f d
+inSet f d = monthDayAllowed f (localDate d .day) (fromEnd d) && weekdayAllowed f (localDate d .day) (fromEnd d) (localWeekday d)
 
 -- "BYSETPOS picks from the period's whole rising day set, days before the start included; a place that does not exist picks nothing."
 -- Only monthly frames have positions, so the period is the day's month.

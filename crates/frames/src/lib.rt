@@ -1,4 +1,8 @@
 // One cron or rule frame on local days and minutes.
+mod days;
+pub mod numbers;
+mod rules;
+mod truth;
 
 // Frame 03: the masks of the five fields; flag bit 0 says that the day of month is restricted, bit 1 that the day of week is.
 pub struct Cron {

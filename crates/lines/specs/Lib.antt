@@ -1,3 +1,4 @@
 -- A text as lines.
 pub mod Bytes
 pub mod Lines
+pub mod Open

@@ -1,10 +1,10 @@
 -- "Wall clock to instant" and the limits of transitions.
 use mathlib.Core.Bool.{Bool, true, false, cond, _&&_}
 use mathlib.Core.List.{List, [], _∷_}
-use Prim.Native.Nat.{ℕ, zero, suc, _+_, _-_}
+use Prim.Native.Nat.{ℕ, _+_, _-_}
 use lib.Dec.{leb, ltb, eqb}
 use lib.ListN.{length}
-use Rattle.calendar.specs.Below.{within}
+use Rattle.calendar.specs.Below.{within, leastFrom}
 use Rattle.zone.specs.declared.Transition.{Transition}
 
 -- the offset before the first transition, and the transitions, rising
@@ -23,11 +23,6 @@ offsetAt z i = offsetFrom (z .first) (z .changes) i
 -- instant i shows local minute m: i + offset(i) = m
 unfoldable pub shows : Offsets → ℕ → ℕ → Bool
 shows z m i = eqb (i + offsetAt z i) (m + 2880)
-
--- the least of the k numbers from i on that passes the test; the first past them where none does
-unfoldable pub leastFrom : (ℕ → Bool) → ℕ → ℕ → ℕ
-leastFrom test zero i = i
-leastFrom test (suc k) i = elim (test i) [ true ↦ i | false ↦ leastFrom test k (suc i) ]
 
 -- "If none exists, m lies in the gap of one transition and becomes m minus the offset before it."
 unfoldable pub gapInstant : ℕ → List Transition → ℕ → ℕ

@@ -1,9 +1,16 @@
-//! Random sheets that are taken: for tests, for the peers and for comparisons.
+//! Random sheets that are taken, for tests, for the peers and for comparisons; and sheets and plans at the edges
+//! of what is taken.
 
+mod bad_lines;
+mod bad_plan;
+mod bad_sheet;
 mod cron;
 mod rule;
 mod zones;
 
+pub use bad_lines::edge_lines;
+pub use bad_plan::{bad_plan, plans_at_the_edges};
+pub use bad_sheet::bad_sheet;
 pub use cron::cron_line;
 pub use rule::rule_line;
 pub use zones::zone_lines;
@@ -34,6 +41,22 @@ pub fn sheet(random: &mut Random) -> String {
     for _ in 0..random.between(0, 5) {
         let excepted = held_or_any(&meaning, random);
         lines.push(format!("X {}", written(excepted)));
+    }
+    text_of(&lines)
+}
+
+/// A sheet of few lines, with a zone of at most three transitions.
+pub fn short_sheet(random: &mut Random) -> String {
+    let mut lines = zone_lines(random);
+    lines.truncate(random.between(1, 4) as usize);
+    for _ in 0..random.between(1, 4) {
+        let minute = written(random.between(FIRST_MINUTE, LAST_MINUTE));
+        lines.push(match random.between(0, 5) {
+            0 => format!("D {minute}"),
+            1 => format!("X {minute}"),
+            2 => cron_line(random),
+            _ => rule_line(random),
+        });
     }
     text_of(&lines)
 }

@@ -62,7 +62,7 @@ fn distance(random: &mut Random) -> i64 {
 }
 
 /// "An *offset* is a sign and `HHMM`".
-fn offset_text(offset: i64) -> String {
+pub fn offset_text(offset: i64) -> String {
     let sign = if offset < 0 { '-' } else { '+' };
     format!("{sign}{:02}{:02}", offset.abs() / 60, offset.abs() % 60)
 }

@@ -1,0 +1,7 @@
+-- Opens every definition of the crate and of those below it at once, for the files that compute them.
+use Rattle.signed.specs.Open.{opened as signed-opened}
+use Rattle.calendar.specs.Open.{opened as calendar-opened}
+
+unfoldable pub opened : Unit {0}
+unfolding signed-opened calendar-opened
+opened = tt

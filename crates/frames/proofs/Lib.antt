@@ -1,0 +1,3 @@
+-- What the proofs of frames share.
+pub mod MonthDays
+pub mod Flags

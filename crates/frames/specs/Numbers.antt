@@ -1,0 +1,43 @@
+-- A cron or rule frame as the search holds it: sixteen numbers, the first the frame's kind, 3 or 4.
+use mathlib.Core.Bool.{Bool, false, cond, _&&_}
+use mathlib.Core.List.{List}
+use Prim.Native.Nat.{ℕ, _/_}
+use lib.Dec.{eqb}
+use lib.ListN.{getD}
+use Rattle.calendar.specs.Window.{localDate}
+use Rattle.frames.specs.Cron.{cronDay}
+use Rattle.frames.specs.Rule.{ruleDay}
+use Rattle.frames.specs.declared.Cron.{Cron}
+use Rattle.frames.specs.declared.Rule.{Rule}
+
+abbrev pub cronOf : List ℕ → Cron
+cronOf l =
+    record {
+      minutes = getD l 1 0;
+      hours = getD l 2 0;
+      days = getD l 3 0;
+      months = getD l 4 0;
+      weekdays = getD l 5 0;
+      flags = getD l 6 0;
+    }
+
+abbrev pub ruleOf : List ℕ → Rule
+ruleOf l =
+    record {
+      frequency = getD l 1 0;
+      interval = getD l 2 0;
+      start = getD l 3 0;
+      last = getD l 4 0;
+      weekdays = getD l 5 0;
+      days = record { front = getD l 6 0; back = getD l 7 0 };
+      ordinals = record { front = getD l 8 0; back = getD l 9 0 };
+      positions = record { front = getD l 10 0; back = getD l 11 0 };
+    }
+
+-- the day test of the frame
+unfoldable pub dayHeld : List ℕ → ℕ → Bool
+dayHeld l d = cond (eqb (getD l 0 0) 3) (cronDay (cronOf l) d) (cond (eqb (getD l 0 0) 4) (ruleDay (ruleOf l) d) false)
+
+-- the month that holds a rule's start
+unfoldable pub startMonth : List ℕ → ℕ
+startMonth l = localDate (getD l 3 0 / 1440) .month

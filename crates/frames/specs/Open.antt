@@ -1,0 +1,11 @@
+-- Opens every definition of the crate and of those below it at once, for the files that compute them.
+use Rattle.calendar.specs.Open.{opened as calendar-opened}
+use Rattle.masks.specs.Open.{opened as masks-opened}
+use Rattle.frames.specs.Cron.{cronDayAt, cronDay, cronTime, cronHeld}
+use Rattle.frames.specs.Numbers.{dayHeld, startMonth}
+use Rattle.frames.specs.Rule.{monthDayAllowed, weekdayAllowed, inSet, placed, period, counts, ruleDay, ruleOccurs, ruleHeld}
+use Rattle.frames.specs.Steps.{dayCounts, rulePart, monthCounts, dayPart}
+
+unfoldable pub opened : Unit {0}
+unfolding calendar-opened masks-opened cronDayAt cronDay cronTime cronHeld dayHeld startMonth monthDayAllowed weekdayAllowed inSet placed period counts ruleDay ruleOccurs ruleHeld dayCounts rulePart monthCounts dayPart
+opened = tt

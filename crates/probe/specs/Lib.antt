@@ -1,0 +1,2 @@
+-- What the test entries answer.
+pub mod Probed

@@ -1,0 +1,254 @@
+//! Plans with something wrong, or with something that is just right, for each condition of "A plan is taken
+//! exactly if".
+
+use super::short_sheet;
+use crate::entries::compile;
+use crate::hex::{bytes_of, digits_of};
+use crate::random::Random;
+
+/// The first byte past the window, and the least number of four bytes.
+const PAST: i64 = 52_596_000;
+const LEAST: i64 = -2_147_483_648;
+
+/// A field of the frames of a kind: kind, first byte, length, and numbers at both sides of its limits.
+type Edges = (u8, usize, usize, &'static [i64]);
+
+const EDGES: [Edges; 38] = [
+    (0x01, 1, 2, &[840, 841, -720, -721, 0, -32_768]),
+    (0x02, 1, 4, &[0, -1, PAST - 1, PAST, LEAST]),
+    (0x02, 5, 2, &[840, 841, -720, -721, 32_767]),
+    (0x03, 1, 8, &[0, 1, 1 << 59, 1 << 60, (1 << 60) - 1, -1]),
+    (0x03, 9, 4, &[0, 1, 1 << 23, 1 << 24, (1 << 24) - 1, -1]),
+    (0x03, 13, 4, &[0, 1, 2, 1 << 31, -2, -1]),
+    (0x03, 17, 2, &[0, 1, 2, 1 << 12, 1 << 13, 0x1FFE, -1]),
+    (0x03, 19, 1, &[0, 1, 0x40, 0x7F, 0x80, 0xFF]),
+    (0x03, 20, 1, &[0, 1, 2, 3, 4, 7, 0x83]),
+    (0x04, 1, 1, &[0, 1, 2, 3, 4, 0xFF]),
+    (0x04, 2, 2, &[0, 1, 2, 999, 1_000, -1]),
+    (0x04, 4, 4, &[0, PAST - 1, PAST, LEAST]),
+    (0x04, 8, 4, &[0, PAST - 1, PAST, LEAST]),
+    (0x04, 12, 1, &[0, 0x7F, 0x80, 0xFF]),
+    (0x04, 13, 4, &[0, 1, 2, -2, -1]),
+    (0x04, 17, 4, &[0, 1, 2, -2, -1]),
+    (0x04, 21, 1, &[0, 1, 0x7F, 0x80]),
+    (0x04, 22, 1, &[0x7F, 0x80]),
+    (0x04, 23, 1, &[0x7F, 0x80]),
+    (0x04, 24, 1, &[0x7F, 0x80]),
+    (0x04, 25, 1, &[0x7F, 0x80]),
+    (0x04, 26, 1, &[0, 1, 0x7F, 0x80]),
+    (0x04, 27, 1, &[0x7F, 0x80]),
+    (0x04, 28, 1, &[0x7F, 0x80]),
+    (0x04, 29, 1, &[0x7F, 0x80]),
+    (0x04, 30, 1, &[0x7F, 0x80]),
+    (0x04, 31, 4, &[0, 1, 2, -2, -1]),
+    (0x04, 35, 4, &[0, 1, 2, -2, -1]),
+    // groups of fields together
+    (0x04, 12, 27, &[0]),
+    (0x04, 12, 9, &[0]),
+    (0x04, 13, 8, &[0]),
+    (0x04, 13, 26, &[0]),
+    (0x04, 21, 10, &[0]),
+    (0x04, 21, 18, &[0]),
+    (0x04, 31, 8, &[0]),
+    (0x05, 1, 4, &[0, PAST - 1, PAST, LEAST, -1]),
+    (0x06, 1, 4, &[0, PAST - 1, PAST, LEAST, -1]),
+    (0xFF, 1, 1, &[0, 1, 64, 0xFF]),
+];
+
+/// A plan for each number of the fields above.
+pub fn plans_at_the_edges(random: &mut Random) -> Vec<Vec<u8>> {
+    let mut plans = Vec::new();
+    for (kind, at, length, numbers) in EDGES {
+        for &number in numbers {
+            let (mut frames, chosen) = frames_with(kind, random);
+            set(&mut frames[chosen], at, length, number);
+            plans.push(text_of(&frames));
+        }
+    }
+    plans
+}
+
+/// A plan of a sort: as compiled, or with its frames or its text changed.
+pub fn bad_plan(sort: u64, random: &mut Random) -> Vec<u8> {
+    match sort {
+        0 => text_of(&some_frames(random)),
+        1 => with_moved_rule(random),
+        2 => with_bits_changed(random),
+        3 => with_another_length(random),
+        4 => with_frames_moved(random),
+        5 => with_many_frames(random),
+        6 => at_the_zone_limits(random),
+        _ => with_text_changed(random),
+    }
+}
+
+/// The frames of a compiled plan, the end frame among them.
+fn some_frames(random: &mut Random) -> Vec<Vec<u8>> {
+    let (_, text) = compile(short_sheet(random).as_bytes(), usize::MAX);
+    text.lines().map(bytes_of).collect()
+}
+
+/// Frames of which one is of the kind, and its place.
+fn frames_with(kind: u8, random: &mut Random) -> (Vec<Vec<u8>>, usize) {
+    loop {
+        let frames = some_frames(random);
+        if let Some(chosen) = frames.iter().rposition(|frame| frame[0] == kind) {
+            return (frames, chosen);
+        }
+    }
+}
+
+fn text_of(frames: &[Vec<u8>]) -> Vec<u8> {
+    let lines = frames.iter().map(|frame| digits_of(frame) + "\n");
+    lines.collect::<String>().into_bytes()
+}
+
+fn any_place<Item>(items: &[Item], random: &mut Random) -> usize {
+    random.between(0, items.len() as i64 - 1) as usize
+}
+
+/// The number, big-endian, in the field; a longer field than a number has is filled with its sign.
+fn set(frame: &mut [u8], at: usize, length: usize, number: i64) {
+    for place in 0..length {
+        let shift = (8 * (length - 1 - place)).min(63);
+        frame[at + place] = (number >> shift) as u8;
+    }
+}
+
+fn four_bytes(frame: &[u8], at: usize) -> i64 {
+    let bytes = frame[at..at + 4].iter();
+    bytes.fold(0, |number, &byte| number << 8 | i64::from(byte))
+}
+
+/// A rule frame whose start or last is moved.
+fn with_moved_rule(random: &mut Random) -> Vec<u8> {
+    let (mut frames, chosen) = frames_with(0x04, random);
+    let frame = &mut frames[chosen];
+    let (start, last) = (four_bytes(frame, 4), four_bytes(frame, 8));
+    let moves = [-43_200, -10_080, -1_440, -1, 1, 1_440, 10_080, 43_200];
+    let near_start = [-1, 0, 1, 1_439, 1_440, 100_000];
+    match random.between(0, 3) {
+        0 => set(frame, 4, 4, start + moves[any_place(&moves, random)]),
+        1 => set(frame, 4, 4, last + random.between(0, 1)),
+        _ => set(
+            frame,
+            8,
+            4,
+            start + near_start[any_place(&near_start, random)],
+        ),
+    }
+    text_of(&frames)
+}
+
+fn with_bits_changed(random: &mut Random) -> Vec<u8> {
+    let mut frames = some_frames(random);
+    for _ in 0..random.between(1, 2) {
+        let chosen = any_place(&frames, random);
+        let byte = any_place(&frames[chosen], random);
+        frames[chosen][byte] ^= 1 << random.between(0, 7);
+    }
+    text_of(&frames)
+}
+
+/// "the frames are of these kinds and lengths".
+fn with_another_length(random: &mut Random) -> Vec<u8> {
+    let mut frames = some_frames(random);
+    let chosen = any_place(&frames, random);
+    let frame = &mut frames[chosen];
+    match random.between(0, 4) {
+        0 => frame.push(0),
+        1 => frame.truncate(frame.len() - 1),
+        2 => frame.truncate(1),
+        3 => frame.clear(),
+        _ => frame[0] = [0x00, 0x01, 0x02, 0x05, 0x06, 0x07, 0xFE][random.between(0, 6) as usize],
+    }
+    text_of(&frames)
+}
+
+/// "01 first, then up to 32 of 02 [..], then others", "nothing after it".
+fn with_frames_moved(random: &mut Random) -> Vec<u8> {
+    let mut frames = some_frames(random);
+    let (from, to) = (any_place(&frames, random), any_place(&frames, random));
+    match random.between(0, 4) {
+        0 => frames.swap(from, to),
+        1 => frames.insert(to, frames[from].clone()),
+        2 => frames.truncate(from),
+        3 => frames.push(frames[from].clone()),
+        _ => {
+            frames.remove(from);
+        }
+    }
+    if random.between(0, 1) == 0 {
+        set_right_number(&mut frames);
+    }
+    text_of(&frames)
+}
+
+/// The last frame becomes an end frame whose number is right.
+fn set_right_number(frames: &mut Vec<Vec<u8>>) {
+    if frames.last().is_some_and(|frame| frame[0] == 0xFF) {
+        frames.pop();
+    }
+    frames.push(vec![0xFF, frames.len() as u8]);
+}
+
+/// About 64 frames, or about 32 transitions.
+fn with_many_frames(random: &mut Random) -> Vec<u8> {
+    let mut frames = vec![vec![0x01, 0x00, 0x3C]];
+    match random.between(0, 1) {
+        0 => frames.resize(random.between(63, 66) as usize, vec![0x05, 0, 0, 0, 0]),
+        _ => frames.extend((1..=random.between(31, 34)).map(|n| transition(n * 2_880, n % 2 * 60))),
+    }
+    set_right_number(&mut frames);
+    text_of(&frames)
+}
+
+fn transition(instant: i64, offset: i64) -> Vec<u8> {
+    let mut frame = vec![0x02; 7];
+    set(&mut frame, 1, 4, instant);
+    set(&mut frame, 5, 2, offset);
+    frame
+}
+
+/// Two transitions, at about the least distance and with about the greatest change.
+fn at_the_zone_limits(random: &mut Random) -> Vec<u8> {
+    let changes = [0, 1, -1, 180, -180, 181, -181];
+    let distances = [2_879, 2_880, 2_881, 0, -1];
+    let instant = random.between(0, PAST - 3_000);
+    let later = instant + distances[any_place(&distances, random)];
+    let first = changes[any_place(&changes, random)];
+    let second = first + changes[any_place(&changes, random)];
+    let zone = vec![0x01, 0x00, 0x00];
+    let mut frames = vec![zone, transition(instant, first), transition(later, second)];
+    set_right_number(&mut frames);
+    text_of(&frames)
+}
+
+/// "One frame a line: upper-case hex digits, LF."
+fn with_text_changed(random: &mut Random) -> Vec<u8> {
+    let mut text = text_of(&some_frames(random));
+    let place = any_place(&text, random);
+    let others = b"afgG:@/` -\r\n\x000Ff\xC3x";
+    let other = others[any_place(others, random)];
+    match random.between(0, 7) {
+        0 => text[place] = other,
+        1 => text.insert(place, other),
+        2 => text.push(other),
+        3 => text.truncate(place),
+        4 => {
+            text.pop();
+        }
+        5 => text = text.to_ascii_lowercase(),
+        6 => text = digits_with_cr(&text),
+        _ => {
+            text.remove(place);
+        }
+    }
+    text
+}
+
+fn digits_with_cr(text: &[u8]) -> Vec<u8> {
+    let lines = text.split_inclusive(|&byte| byte == b'\n');
+    let ends = lines.map(|line| [&line[..line.len() - 1], b"\r\n"].concat());
+    ends.collect::<Vec<_>>().concat()
+}
