@@ -2,7 +2,8 @@
 //! Decimal numbers, single spaces; "A refusal answers its number [..] and zeros for every other number".
 
 use crate::dates;
-use crate::local::{is_local_minute, LAST_MINUTE};
+use crate::local::{is_local_minute, LAST_MINUTE, MINUTES_OF_A_DAY};
+use crate::plan::{self, frame::Frame, Plan};
 use crate::zone::{Transition, Zone, MOST_TRANSITIONS, OFFSETS};
 
 /// Refusal 5: "number or date out of range [..]; also day, ISO and local-minute entry points".
@@ -10,6 +11,9 @@ const OUT_OF_RANGE: &str = "5";
 
 /// The answer line, without LF; none if the line is no request.
 pub fn answer(request: &str) -> Option<String> {
+    if let Some(minutes) = frames_answer(request) {
+        return Some(minutes);
+    }
     let mut words = request.split(' ');
     let name = words.next()?;
     let numbers: Option<Vec<i64>> = words.map(|word| word.parse().ok()).collect();
@@ -29,6 +33,41 @@ pub fn answer(request: &str) -> Option<String> {
         ("locals" | "offsets", numbers) => zone_answer(name, numbers),
         _ => None,
     }
+}
+
+/// Held local minutes of frames, or the day of a rule's occurrence.
+fn frames_answer(request: &str) -> Option<String> {
+    let mut words = request.split(' ');
+    let name = words.next()?;
+    let number: i64 = words.next()?.parse().ok()?;
+    if name == "nth" {
+        let day = nth_day(number, plan::of_lines(words)?);
+        return Some(day.map_or("-".to_string(), |day| day.to_string()));
+    }
+    let asked: usize = words.next()?.parse().ok()?;
+    let minutes = plan::of_plan(&plan::of_lines(words)?).minutes;
+    let found: Vec<String> = match name {
+        "rising" => texts(minutes.rising_from(number).take(asked)),
+        "falling" => texts(minutes.falling_from(number).take(asked)),
+        _ => return None,
+    };
+    Some(found.join(" "))
+}
+
+fn texts(numbers: impl Iterator<Item = i64>) -> Vec<String> {
+    numbers.map(|number| number.to_string()).collect()
+}
+
+/// The local day of the count-th occurrence of a rule, *last* left out.
+fn nth_day(count: i64, mut plan: Plan) -> Option<i64> {
+    for frame in &mut plan.frames {
+        if let Frame::Rule(rule) = frame {
+            rule.last = LAST_MINUTE;
+        }
+    }
+    let minutes = plan::of_plan(&plan).minutes;
+    let found = minutes.rising_from(0).nth(count as usize - 1);
+    found.map(|minute| minute / MINUTES_OF_A_DAY)
 }
 
 /// The instants of local minutes or the offsets at instants of a zone, or where and why the zone is refused.

@@ -3,6 +3,7 @@
 
 pub mod answer;
 pub mod cases_dates;
+pub mod cases_frames;
 pub mod cases_zones;
 pub mod command_line;
 pub mod compare;

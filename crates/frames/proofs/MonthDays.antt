@@ -1,13 +1,13 @@
 -- The days of a month of the window, by their day of month.
-use mathlib.Core.Path.{_≡_, refl, sym, ap, _∙_}
-use Prim.Native.Nat.{ℕ, _+_, _-_, _*_, _/_, _%_, _<_, _≤_}
+use mathlib.Core.Path.{_≡_, refl, sym, ap}
+use Prim.Native.Nat.{ℕ, _+_, _-_, _/_, _%_, _<_}
 use native.Mathlib.Omega.{arith}
+use Rattle.calendar.proofs.Windows.{InWindow, local-date-is, in-window-below}
 use Rattle.calendar.specs.Calendar.{weekdayOf}
 use Rattle.calendar.specs.Iso.{mondayOf}
 use Rattle.calendar.specs.Window.{monthFirst, monthDays, localDate, localWeekday, localWeek, fromEnd}
 use Rattle.calendar.specs.declared.year.MonthDay.{MonthDay}
 use Rattle.frames.specs.Steps.{dayOf, InMonth}
-use Rattle.calendar.proofs.Windows.{InWindow, local-date-is, in-window-below, month-first-next}
 
 module _ (k n : ℕ) (i : InMonth k n) where
   placed : InWindow (dayOf k n) (record { month = k; day = n })

@@ -3,4 +3,7 @@ pub mod Cron
 pub mod Rule
 pub mod Numbers
 pub mod Steps
+pub mod Minutes
+pub mod Search
+pub mod Lists
 pub mod Open

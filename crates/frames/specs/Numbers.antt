@@ -1,5 +1,5 @@
 -- A cron or rule frame as the search holds it: sixteen numbers, the first the frame's kind, 3 or 4.
-use mathlib.Core.Bool.{Bool, false, cond, _&&_}
+use mathlib.Core.Bool.{Bool, false, cond}
 use mathlib.Core.List.{List}
 use Prim.Native.Nat.{ℕ, _/_}
 use lib.Dec.{eqb}

@@ -8,8 +8,8 @@ use lib.ListN.{getD}
 use Rattle.calendar.specs.Window.{monthFirst, monthDays}
 use Rattle.masks.specs.Masks.{bit}
 use Rattle.frames.specs.Cron.{cronDay}
+use Rattle.frames.specs.Numbers.{cronOf, ruleOf, startMonth}
 use Rattle.frames.specs.Rule.{counts, inSet}
-use Rattle.frames.specs.Numbers.{cronOf, ruleOf, dayHeld, startMonth}
 use Rattle.frames.specs.declared.Rule.{Rule}
 
 -- the interval of a daily or weekly rule

@@ -1,7 +1,16 @@
 // One cron or rule frame on local days and minutes.
+mod back;
+pub mod count;
 mod days;
+pub mod lists;
+pub mod minutes;
+mod months;
 pub mod numbers;
+mod one;
+mod ranges;
 mod rules;
+mod steps;
+mod times;
 mod truth;
 
 // Frame 03: the masks of the five fields; flag bit 0 says that the day of month is restricted, bit 1 that the day of week is.

@@ -4,6 +4,8 @@ ghost use Rattle.zone.specs.Zone.{offsetAt};
 ghost use Rattle.zone.specs.Held.{offsetsOf};
 ghost use Rattle.zone.specs.Limits.{startOf, addedTo};
 ghost use Rattle.zone.specs.Stretches.{stretchLocal};
+ghost use Rattle.frames.specs.Lists.{firstOf, listLeast, listLast};
+ghost use Rattle.frames.specs.Search.{nthDay};
 ghost use Rattle.probe.specs.Probed.{limitNumber, zoneAnswer, instantAnswer};
 use zone::Transition;
 use zone::Zone;
@@ -81,4 +83,28 @@ pub extern "C" fn probe_instant_of_local(zone: Zone, m: u64) -> ProbeInstant
         };
     };
     ProbeInstant { number: 0, instant }
+}
+
+// The least held local minute of frames in a range, or the range's end.
+#[no_mangle]
+pub extern "C" fn probe_list_least(fs: &[[u64; 16]; 64], count: usize, low: u64, high: u64) -> u64
+    ensures { λ r. ⌜ r ≡ listLeast (firstOf count (now (fs .entry))) low high ⌝ }
+{
+    frames::lists::list_least(fs, count, low, high)
+}
+
+// One more than the greatest held local minute of frames in a range, or the range's start.
+#[no_mangle]
+pub extern "C" fn probe_list_last(fs: &[[u64; 16]; 64], count: usize, low: u64, high: u64) -> u64
+    ensures { λ r. ⌜ r ≡ listLast (firstOf count (now (fs .entry))) low high ⌝ }
+{
+    frames::lists::list_last(fs, count, low, high)
+}
+
+// The day of the count-th occurrence of a rule from a day on, or the first day past 2099.
+#[no_mangle]
+pub extern "C" fn probe_nth_day(f: &[u64; 16], count: u64, low: u64) -> u64
+    ensures { λ r. ⌜ r ≡ nthDay (now (f .entry)) count low ⌝ }
+{
+    frames::count::nth_day(f, count, low)
 }

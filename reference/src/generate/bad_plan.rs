@@ -6,7 +6,7 @@ use crate::entries::compile;
 use crate::hex::{bytes_of, digits_of};
 use crate::random::Random;
 
-/// The first byte past the window, and the least number of four bytes.
+/// The first local minute past the window, and the least number of four bytes.
 const PAST: i64 = 52_596_000;
 const LEAST: i64 = -2_147_483_648;
 
@@ -194,7 +194,7 @@ fn set_right_number(frames: &mut Vec<Vec<u8>>) {
 
 /// About 64 frames, or about 32 transitions.
 fn with_many_frames(random: &mut Random) -> Vec<u8> {
-    let mut frames = vec![vec![0x01, 0x00, 0x3C]];
+    let mut frames = vec![vec![0x01, 0x00, 0x00]];
     match random.between(0, 1) {
         0 => frames.resize(random.between(63, 66) as usize, vec![0x05, 0, 0, 0, 0]),
         _ => frames.extend((1..=random.between(31, 34)).map(|n| transition(n * 2_880, n % 2 * 60))),

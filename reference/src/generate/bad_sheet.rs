@@ -23,6 +23,16 @@ pub fn bad_sheet(number: u64, random: &mut Random) -> Vec<u8> {
     }
 }
 
+/// A sheet that is refused by this number, 1 to 8.
+pub fn refused_sheet(number: u64, random: &mut Random) -> Vec<u8> {
+    loop {
+        let text = bad_sheet(number, random);
+        if read(&text).is_err_and(|refusal| refusal.number == number) {
+            return text;
+        }
+    }
+}
+
 /// The lines of a taken sheet, each without LF.
 fn some_lines(random: &mut Random) -> Vec<String> {
     short_sheet(random).lines().map(str::to_string).collect()

@@ -10,7 +10,7 @@ mod zones;
 
 pub use bad_lines::edge_lines;
 pub use bad_plan::{bad_plan, plans_at_the_edges};
-pub use bad_sheet::bad_sheet;
+pub use bad_sheet::{bad_sheet, refused_sheet};
 pub use cron::cron_line;
 pub use rule::rule_line;
 pub use zones::zone_lines;

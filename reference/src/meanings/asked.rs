@@ -1,7 +1,7 @@
 //! The local minutes that are asked about: held ones and those beside them, those around transitions, those that
-//! the frames name, and any.
+//! the frames name, and any; a few lie past the window, where nothing is held.
 
-use crate::local::{is_local_minute, FIRST_MINUTE, LAST_MINUTE};
+use crate::local::{FIRST_MINUTE, LAST_MINUTE};
 use crate::meaning::Meaning;
 use crate::plan::frame::Frame;
 use crate::random::Random;
@@ -17,9 +17,9 @@ pub fn minutes(times: u64, frames: &[Frame], meaning: &Meaning, random: &mut Ran
                 .flat_map(|minute| [minute, beside(minute, random)]),
         );
         asked.extend(around_a_transition(&meaning.zone, random));
-        asked.extend(named(frames, random).map(|minute| minute + random.between(-1, 1)));
+        asked.extend(named(frames, random).map(|minute| at_or_beside(minute, random)));
     }
-    asked.retain(|&minute| is_local_minute(minute));
+    asked.retain(|&minute| minute >= FIRST_MINUTE);
     asked.sort_unstable();
     asked.dedup();
     asked
@@ -29,6 +29,7 @@ fn any(random: &mut Random) -> i64 {
     match random.between(0, 9) {
         0 => FIRST_MINUTE,
         1 => LAST_MINUTE,
+        2 => LAST_MINUTE + random.between(1, 3_000),
         _ => random.between(FIRST_MINUTE, LAST_MINUTE),
     }
 }
@@ -37,6 +38,13 @@ fn any(random: &mut Random) -> i64 {
 fn held_near(minute: i64, meaning: &Meaning) -> Option<i64> {
     let later = meaning.minutes.rising_from(minute).next();
     later.or_else(|| meaning.minutes.falling_from(minute).next())
+}
+
+fn at_or_beside(minute: i64, random: &mut Random) -> i64 {
+    match random.between(0, 1) {
+        0 => minute,
+        _ => beside(minute, random),
+    }
 }
 
 /// A minute, an hour, a day, a week or about a month away.

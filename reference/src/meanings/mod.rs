@@ -1,7 +1,8 @@
 //! Cases for `tools/try-meanings`: generated sheets and plans with the reference's answers, for the prover to
 //! compute from the definitions. A line each, numbers and bytes as hex digits (`-` for none):
 //! `sheet BYTES`, then `compile ROOM NUMBER LINE BAD_AT BAD_LENGTH PLAN` for some rooms, and, if it is taken,
-//! `minute LOCAL HELD INSTANT` for some local minutes; `plan BYTES`, then `load NUMBER LINE` and such minutes.
+//! `minute LOCAL HELD INSTANT SHOWN` for some local minutes, where SHOWN is how many instants show it;
+//! `plan BYTES`, then `load NUMBER LINE` and such minutes.
 
 mod asked;
 mod cost;
@@ -9,13 +10,17 @@ mod cost;
 use std::io::{self, Write};
 
 use crate::entries::{compile, Loaded};
-use crate::generate::{bad_plan, bad_sheet, crowded_sheet, edge_lines, plans_at_the_edges, sheet};
+use crate::generate::{
+    bad_plan, bad_sheet, crowded_sheet, edge_lines, plans_at_the_edges, refused_sheet, sheet,
+    short_sheet,
+};
 use crate::hex::digits_of;
 use crate::meaning::{of_sheet, Meaning};
 use crate::plan::{self, of_plan};
 use crate::random::Random;
 use crate::sheet::line::Line;
 use crate::sheet::read;
+use crate::zone::{Zone, OFFSETS};
 
 /// A room for every plan: 64 rule frames and the end frame have 5,061 bytes.
 const AMPLE: usize = 6_000;
@@ -23,13 +28,16 @@ const AMPLE: usize = 6_000;
 /// Sheets and minutes that make the prover walk over more days, each weighted by its tests, are left out.
 const MOST_DAYS: i64 = 30_000;
 
-/// The sorts of sheets: so many are taken, then one for each refusal number, then one with bytes changed.
-const TAKEN_SORTS: u64 = 8;
-const SHEET_SORTS: u64 = TAKEN_SORTS + 9;
+/// The sorts of sheets: taken ones; one that is refused by each number 1 to 8; one that is near to it by each
+/// number, and one with bytes changed.
+const TAKEN_SORTS: u64 = 13;
+const REFUSED_SORTS: u64 = TAKEN_SORTS + 8;
+const SHEET_SORTS: u64 = REFUSED_SORTS + 9;
 const PLAN_SORTS: u64 = 8;
 
 pub fn dump(seed: u64, sheets: u64, plans: u64, out: &mut impl Write) -> io::Result<()> {
     let mut random = Random::new(seed);
+    sheet_case(b"", &mut random, out)?;
     for line in edge_lines() {
         sheet_case(format!("{line}\n").as_bytes(), &mut random, out)?;
         sheet_case(format!("Z +0100\n{line}\n").as_bytes(), &mut random, out)?;
@@ -38,6 +46,7 @@ pub fn dump(seed: u64, sheets: u64, plans: u64, out: &mut impl Write) -> io::Res
         let text = some_sheet(number % SHEET_SORTS, &mut random);
         sheet_case(&text, &mut random, out)?;
     }
+    plan_case(b"", &mut random, out)?;
     for text in plans_at_the_edges(&mut random) {
         plan_case(&text, &mut random, out)?;
     }
@@ -53,8 +62,10 @@ fn some_sheet(sort: u64, random: &mut Random) -> Vec<u8> {
     loop {
         let text = match sort {
             0 => crowded_sheet(random).into_bytes(),
-            sort if sort < TAKEN_SORTS => sheet(random).into_bytes(),
-            sort => bad_sheet(sort - TAKEN_SORTS + 1, random),
+            1..=6 => sheet(random).into_bytes(),
+            7..TAKEN_SORTS => short_sheet(random).into_bytes(),
+            TAKEN_SORTS..REFUSED_SORTS => refused_sheet(sort - TAKEN_SORTS + 1, random),
+            _ => bad_sheet(sort - REFUSED_SORTS + 1, random),
         };
         let lines = read(&text).unwrap_or_default();
         if lines.iter().map(cost::days_to_last).sum::<i64>() <= MOST_DAYS {
@@ -121,9 +132,18 @@ fn minutes(meaning: &Meaning, asked: &[i64], out: &mut impl Write) -> io::Result
     for &minute in asked {
         let held = u8::from(meaning.minutes.holds(minute));
         let instant = meaning.zone.instant_of(minute);
-        writeln!(out, "minute {minute} {held} {instant}")?;
+        let shown = times_shown(&meaning.zone, minute);
+        writeln!(out, "minute {minute} {held} {instant} {shown}")?;
     }
     Ok(())
+}
+
+/// How many instants show a local minute: none in a gap, two in a doubled hour.
+fn times_shown(zone: &Zone, minute: i64) -> usize {
+    let instants = minute - OFFSETS.end()..=minute - OFFSETS.start();
+    instants
+        .filter(|&instant| instant + zone.offset_at(instant) == minute)
+        .count()
 }
 
 fn hex(bytes: &[u8]) -> String {

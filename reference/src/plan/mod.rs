@@ -18,6 +18,16 @@ pub struct Plan {
     pub frames: Vec<Frame>,
 }
 
+/// The frames of lines without LF, whether or not they may stand together.
+pub fn of_lines<'a>(lines: impl Iterator<Item = &'a str>) -> Option<Plan> {
+    let mut plan = Plan::default();
+    for line in lines {
+        let bytes = text::bytes_of(format!("{line}\n").as_bytes())?;
+        plan.add(frame::read(&bytes)?);
+    }
+    Some(plan)
+}
+
 /// The taken plan, or refusal 10's line: "the line number of the first line not allowed where it stands, or of
 /// the line wanted after the last".
 pub fn read(text: &[u8]) -> Result<Plan, u64> {

@@ -1,12 +1,7 @@
-use borrow.Author.Tests.{eqb-true, eqb-false, eq-eqb, ne-eqb}
-use mathlib.Core.Path.{_≡_, refl, sym, _∙_}
-use mathlib.Core.Bool.{Bool, true, false, _&&_}
-use Prim.Native.Nat.{ℕ, _+_, _*_, _%_, _/_, _^_}
-use native.Mathlib.Omega.{arith}
-use lib.Dec.{eqb}
-use Rattle.frames.proofs.Flags.{both-flags, not-both-flags}
-use Rattle.frames.specs.Cron.{cronDayAt}
+-- The code's flags are 3 exactly if both bits are set; then the definition's cases.
 use borrow.Author.Needs.{needs}
+use Rattle.frames.specs.Cron.{cronDayAt}
+use Rattle.frames.proofs.Flags.{both-flags, not-both-flags}
 use Rattle.frames.proofs.days.cron_day.Statement.{statement}
 use Rattle.frames.proofs.days.cron_day.Tie as tie
 

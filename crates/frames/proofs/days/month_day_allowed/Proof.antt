@@ -1,5 +1,6 @@
-use Rattle.frames.specs.Rule.{monthDayAllowed}
+-- The definition's tests, one after the other.
 use borrow.Author.Needs.{needs}
+use Rattle.frames.specs.Rule.{monthDayAllowed}
 use Rattle.frames.proofs.days.month_day_allowed.Statement.{statement}
 use Rattle.frames.proofs.days.month_day_allowed.Tie as tie
 

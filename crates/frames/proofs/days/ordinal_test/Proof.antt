@@ -1,12 +1,10 @@
-use mathlib.Core.Path.{refl}
-use Prim.Native.Nat.{zero, suc}
-use mathlib.Core.Path.{_≡_, sym, ap, _∙_}
-use Prim.Native.Nat.{ℕ, _+_, _-_, _*_, _/_, _%_, _^_, _<_, _≤_}
+-- The byte of an ordinal is a shifted part of the group, so its bit is one of the group's.
+use mathlib.Core.Path.{refl, _≡_, sym, ap, _∙_}
+use Prim.Native.Nat.{zero, suc, ℕ, _+_, _-_, _*_, _/_, _%_, _^_, _<_, _≤_}
 use native.Mathlib.Omega.{arith}
-use Rattle.masks.specs.Masks.{bit}
-use Rattle.frames.specs.Rule.{ordinalMask}
-use Rattle.masks.proofs.Bits.{bit-of-quotient, bit-of-rest}
 use borrow.Author.Needs.{needs}
+use Rattle.masks.proofs.Bits.{bit-of-quotient, bit-of-rest}
+use Rattle.masks.specs.Masks.{bit}
 use Rattle.frames.proofs.days.ordinal_test.Statement.{statement}
 use Rattle.frames.proofs.days.ordinal_test.Tie as tie
 

@@ -1,5 +1,6 @@
-use Rattle.frames.specs.Rule.{weekdayAllowed}
+-- The definition's tests, one after the other.
 use borrow.Author.Needs.{needs}
+use Rattle.frames.specs.Rule.{weekdayAllowed}
 use Rattle.frames.proofs.days.weekday_allowed.Statement.{statement}
 use Rattle.frames.proofs.days.weekday_allowed.Tie as tie
 

@@ -1,8 +1,9 @@
+-- Days or weeks from the start on; any other frequency goes by the month.
+use borrow.Author.Needs.{needs}
 use borrow.Author.Tests.{eq-eqb, ne-eqb}
+use Rattle.calendar.proofs.Weekdays.{local-week}
 use Rattle.frames.specs.Rule.{period, counts}
 use Rattle.frames.specs.Steps.{dayCounts}
-use Rattle.calendar.proofs.Weekdays.{local-week}
-use borrow.Author.Needs.{needs}
 use Rattle.frames.proofs.rules.day_counts.Statement.{statement}
 use Rattle.frames.proofs.rules.day_counts.Tie as tie
 

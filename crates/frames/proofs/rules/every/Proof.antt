@@ -1,6 +1,4 @@
-use mathlib.Core.Path.{ap, sym}
-use Prim.Native.Nat.{ℕ, _%_}
-use lib.Dec.{eqb}
+-- A remainder by 0 is the number itself.
 use native.Mathlib.Nat.{mod-zero}
 use borrow.Author.Needs.{needs}
 use Rattle.frames.proofs.rules.every.Statement.{statement}

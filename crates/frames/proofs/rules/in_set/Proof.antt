@@ -1,10 +1,11 @@
+-- The limits at the day's places in its month and its weekday.
 use Prim.Native.Nat.{_+_}
 use native.Mathlib.Omega.{arith}
-use Rattle.frames.specs.Rule.{inSet}
-use Rattle.calendar.specs.Window.{fromEnd, localDate}
-use Rattle.calendar.proofs.Windows.{local-date-holds, month-days-range}
-use Rattle.calendar.proofs.Weekdays.{weekday-below, local-weekday}
 use borrow.Author.Needs.{needs}
+use Rattle.calendar.proofs.Weekdays.{weekday-below, local-weekday}
+use Rattle.calendar.proofs.Windows.{local-date-holds, month-days-range}
+use Rattle.calendar.specs.Window.{fromEnd, localDate}
+use Rattle.frames.specs.Rule.{inSet}
 use Rattle.frames.proofs.rules.in_set.Statement.{statement}
 use Rattle.frames.proofs.rules.in_set.Tie as tie
 

@@ -1,8 +1,9 @@
+-- Before the start nothing; from there on the definition's two tests.
 use Prim.Native.Nat.{_/_}
 use native.Mathlib.Omega.{arith}
+use borrow.Author.Needs.{needs}
 use borrow.Author.Tests.{le-leb, lt-leb}
 use Rattle.frames.specs.Steps.{rulePart}
-use borrow.Author.Needs.{needs}
 use Rattle.frames.proofs.rules.rule_part.Statement.{statement}
 use Rattle.frames.proofs.rules.rule_part.Tie as tie
 
@@ -22,7 +23,8 @@ both-requires c κs = search needs
 returns-2 : tie.Need-returns-2
 unfolding rulePart
 returns-2 c = let s = c .before .before .before .before .before in
-    rw (c .both .ensures, c .before .in-set .ensures, c .before .before .day-counts .ensures, le-leb (s .args .f .start / 1440) (s .args .d) (omega arith))
+    rw
+    (c .both .ensures, c .before .in-set .ensures, c .before .before .day-counts .ensures, le-leb (s .args .f .start / 1440) (s .args .d) (omega arith))
 
 pub rule-part-spec : {M : Type 1} → statement M
 rule-part-spec =
