@@ -1,5 +1,5 @@
 -- A frame's minutes: its day and its time of day, cut at a rule's *last*.
-use mathlib.Core.Bool.{Bool, false, and-false, and-true}
+use mathlib.Core.Bool.{Bool, false, _&&_, and-false, and-true}
 use mathlib.Core.List.{List}
 use mathlib.Core.Logic.{dite}
 use mathlib.Core.Path.{_≡_, sym, _∙_}
@@ -7,13 +7,13 @@ use Prim.Native.Nat.{ℕ, _+_, _-_, _%_, _<_, _≤_}
 use native.Mathlib.Decide.{decLt}
 use native.Mathlib.Omega.{arith}
 use borrow.Author.Tests.{eq-eqb, ne-eqb, le-leb, lt-leb}
-use lib.Dec.{eqb}
+use lib.Dec.{leb, eqb}
 use lib.ListN.{getD}
 use Rattle.calendar.proofs.Leasts.{Least, Last, least-none, last-none}
 use Rattle.masks.specs.Times.{timeHeld}
 use Rattle.frames.specs.Cron.{cronTime, cronHeld}
 use Rattle.frames.specs.Minutes.{frameHeld, minutePart, timePart, Cut}
-use Rattle.frames.specs.Numbers.{ruleOf, dayHeld}
+use Rattle.frames.specs.Numbers.{dayHeld}
 use Rattle.frames.specs.Rule.{ruleOccurs, ruleHeld}
 
 -- the time of day of each kind
@@ -30,19 +30,24 @@ unfolding timePart
 no-time l p q t = rw (ne-eqb (getD l 0 0) 3 p, ne-eqb (getD l 0 0) 4 q)
 
 -- a cron frame's minute is its day and its time
-pub cron-cut : (l : List ℕ) (end : ℕ) → getD l 0 0 ≡ 3 → Cut (minutePart l) (frameHeld l) end end
+pub cron-held : (l : List ℕ) → getD l 0 0 ≡ 3 → (m : ℕ) → frameHeld l m ≡ minutePart l m
 unfolding dayHeld timePart frameHeld cronHeld
-cron-cut l end e = record { to = omega arith; same = λ m h. rw (eq-eqb (getD l 0 0) 3 e); none = λ m a b. absurd (omega arith) }
+cron-held l e m = rw (eq-eqb (getD l 0 0) 3 e)
 
--- a rule's, up to *last*
+pub cron-cut : (l : List ℕ) (end : ℕ) → getD l 0 0 ≡ 3 → Cut (minutePart l) (frameHeld l) end end
+cron-cut l end e = record { to = omega arith; same = λ m h. sym (cron-held l e m); none = λ m a b. absurd (omega arith) }
+
+-- a rule's, and it is not after *last*
 module _ (l : List ℕ) (n3 : getD l 0 0 ≡ 3 → ⊥) (e : getD l 0 0 ≡ 4) where
-  rule-same : (m : ℕ) → m ≤ getD l 4 0 → minutePart l m ≡ frameHeld l m
+  pub rule-held : (m : ℕ) → frameHeld l m ≡ (minutePart l m && leb m (getD l 4 0))
   unfolding dayHeld timePart frameHeld ruleHeld ruleOccurs
-  rule-same m h = rw (ne-eqb (getD l 0 0) 3 n3, eq-eqb (getD l 0 0) 4 e, le-leb m (getD l 4 0) h) (sym (and-true (ruleOccurs (ruleOf l) m)))
+  rule-held m = rw (ne-eqb (getD l 0 0) 3 n3, eq-eqb (getD l 0 0) 4 e)
+
+  rule-same : (m : ℕ) → m ≤ getD l 4 0 → minutePart l m ≡ frameHeld l m
+  rule-same m h = sym (rule-held m ∙ rw (le-leb m (getD l 4 0) h) (and-true (minutePart l m)))
 
   rule-past : (m : ℕ) → getD l 4 0 < m → frameHeld l m ≡ false
-  unfolding frameHeld ruleHeld
-  rule-past m h = rw (ne-eqb (getD l 0 0) 3 n3, eq-eqb (getD l 0 0) 4 e, lt-leb m (getD l 4 0) h) (and-false (ruleOccurs (ruleOf l) m))
+  rule-past m h = rule-held m ∙ rw (lt-leb m (getD l 4 0) h) (and-false (minutePart l m))
 
   pub rule-cut : (end : ℕ) → getD l 4 0 < end → Cut (minutePart l) (frameHeld l) end (getD l 4 0 + 1)
   rule-cut end h =

@@ -1,4 +1,4 @@
--- The least and the last of what a frame holds in a range.
+-- The least and the last of what a frame holds in a range; of an empty range both are its low end.
 use mathlib.Core.Bool.{Bool, true, false}
 use mathlib.Core.List.{List}
 use Prim.Native.Nat.{ℕ, zero, suc, _-_, min}
