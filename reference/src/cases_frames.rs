@@ -6,7 +6,7 @@ use crate::local::LAST_MINUTE;
 use crate::random::Random;
 
 /// Rounds for `--times 1`: a rule and a cron line over the whole century, and a sheet from two places.
-const ROUNDS: u64 = 120;
+const ROUNDS: u64 = 300;
 
 /// Minutes that are asked for in a row; those of a rule are at most one a day.
 const MANY: i64 = 36_525;

@@ -17,11 +17,6 @@ pub struct MonthDay {
     pub day: u64,
 }
 
-// The days of the year before each month, month 0 standing for no month.
-const COMMON: [u64; 13] = [0, 0, 31, 59, 90, 120, 151, 181, 212, 243, 273, 304, 334];
-
-const LEAP: [u64; 13] = [0, 0, 31, 60, 91, 121, 152, 182, 213, 244, 274, 305, 335];
-
 pub fn leap(year: u64) -> bool
     ensures { λ r. ⌜ r ≡ leapYear year ⌝ }
 {
@@ -40,15 +35,18 @@ pub fn length(year: u64) -> u64
     if leap(year) { 366 } else { 365 }
 }
 
-// The days of the year before its month.
+// The days of the year before its month: from March on the months start every 30 7/12 days, two days earlier than with a February of 30.
 pub fn month_start(leap: bool, month: u64) -> u64
     ensures { λ r. ⌜ r ≡ monthStart leap month ⌝ }
 {
     if 12 < month {
         return if leap { 366 } else { 365 };
     }
-    let at = month as usize;
-    if leap { LEAP[at] } else { COMMON[at] }
+    if month < 3 {
+        return month / 2 * 31;
+    }
+    let days = (367 * month - 362) / 12;
+    if leap { days - 1 } else { days - 2 }
 }
 
 // The days of a month; none of what is no month.

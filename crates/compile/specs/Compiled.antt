@@ -7,6 +7,7 @@ use lib.Dec.{ltb, eqb}
 use lib.ListN.{length}
 use Rattle.calendar.specs.Below.{anyOf}
 use Rattle.calendar.specs.Window.{localDate, localWeekday}
+use Rattle.frames.specs.Search.{nthFrom}
 use Rattle.frames.specs.declared.Cron.{Cron}
 use Rattle.frames.specs.declared.Ends.{Ends}
 use Rattle.frames.specs.declared.Rule.{Rule}
@@ -75,15 +76,6 @@ daysOf monthly g first =
     elim (g .monthDays) [
       | none ↦ elim (g .days) [ none ↦ record { front = 2 ^ localDate first .day; back = 0 } | some es ↦ nothing ]
       | some ns ↦ endsOf ns
-    ]
-
--- the c-th of the k numbers from i on that pass a test; the first past them where there are fewer
-unfoldable pub nthFrom : (ℕ → Bool) → ℕ → ℕ → ℕ → ℕ
-nthFrom test c zero i = i
-nthFrom test c (suc k) i =
-    elim (test i) [
-      | true ↦ elim (eqb c 1) [ true ↦ i | false ↦ nthFrom test (c - 1) k (suc i) ]
-      | false ↦ nthFrom test c k (suc i)
     ]
 
 -- "*Last* is UNTIL, or the COUNT-th occurrence's local minute, or 52,595,999 if there is neither or fewer occurrences exist."

@@ -2,8 +2,8 @@
 use Rattle.sheet.specs.Open.{opened as sheet-opened}
 use Rattle.plan.specs.Open.{opened as plan-opened}
 use Rattle.masks.specs.Open.{opened as masks-opened}
-use Rattle.compile.specs.Compiled.{cronFrame, nthFrom, lastOf, ruleFrame, frameOf, compiledFrames, compiledText, compile}
+use Rattle.compile.specs.Compiled.{cronFrame, lastOf, ruleFrame, frameOf, compiledFrames, compiledText, compile}
 
 unfoldable pub opened : Unit {0}
-unfolding sheet-opened plan-opened masks-opened cronFrame nthFrom lastOf ruleFrame frameOf compiledFrames compiledText compile
+unfolding sheet-opened plan-opened masks-opened cronFrame lastOf ruleFrame frameOf compiledFrames compiledText compile
 opened = tt

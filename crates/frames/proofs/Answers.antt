@@ -8,9 +8,9 @@ use Rattle.calendar.proofs.Leasts.{Least, Last, least-from, last-from, least-un
 use Rattle.calendar.proofs.Windows.{local-date-holds}
 use Rattle.calendar.specs.Below.{leastFrom, lastFrom}
 use Rattle.calendar.specs.Window.{localDate}
-use Rattle.frames.specs.Numbers.{dayHeld, startMonth}
+use Rattle.frames.specs.Numbers.{dayHeld}
 use Rattle.frames.specs.Search.{leastDay, lastDay}
-use Rattle.frames.specs.Steps.{Here}
+use Rattle.frames.specs.Steps.{dayOf, InMonth, Holds}
 
 -- an answer is the least of the range exactly if it is what the definition computes
 pub least-is : (test : ℕ → Bool) (low high r : ℕ) → low ≤ high → Least test low high r → r ≡ leastFrom test (high - low) low
@@ -47,17 +47,13 @@ last-empty test low high h =
     rw e refl
 
 -- a day stands in its month
-pub here-at : (l : List ℕ) (d high : ℕ) → d < high → high ≤ 36525 → Here l (startMonth l) (localDate d .month) d high
-here-at l d high b t =
-    let i = local-date-holds d (omega arith) in
-    record {
-      begun = refl;
-      month = i .last;
-      from = omega (arith, i .low, i .whole);
-      to = omega (arith, i .low, i .high, i .whole);
-      below = b;
-      top = t;
-    }
+pub holds-at : (d : ℕ) → d < 36525 → (Holds (localDate d .month) d) × (InMonth (localDate d .month) (localDate d .day)) × (d ≡ dayOf (localDate d .month) (localDate d .day))
+holds-at d h =
+    let i = local-date-holds d h in (
+      record { month = i .last; from = omega (arith, i .low, i .whole); to = omega (arith, i .low, i .high, i .whole) },
+      record { month = i .last; low = i .low; high = i .high },
+      sym (i .whole),
+    )
 
 -- what a search over a range of days answers
 pub least-day-least : (l : List ℕ) (low high : ℕ) → low ≤ high → high ≤ 36525 → Least (dayHeld l) low high (leastDay l low high)

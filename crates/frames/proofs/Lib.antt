@@ -4,11 +4,9 @@ pub mod Walks
 pub mod MonthSets
 pub mod Flags
 pub mod Places
+pub mod Weeks
+pub mod Readied
+pub mod Intervals
 pub mod RuleMonths
 pub mod Answers
-pub mod Pairs
-pub mod Cuts
-pub mod Ones
-pub mod Joined
-pub mod Excepted
 pub mod Nths

@@ -41,13 +41,18 @@ whole-bit n l h =
     let e : leb n 0 ≡ false = lt-leb n 0 l in
     is-true (bit 4294967294 n) (simp e at (every wholeMonth 32 all-whole n (omega arith)))
 
--- the whole month decides nothing: the day's own part is the test
+-- a set that leaves no held day out decides nothing: the day's own part is the test
+pub wide-set : (part held : ℕ → Bool) (k set : ℕ) → ((n : ℕ) → InMonth k n → part (dayOf k n) ≡ held (dayOf k n)) → ((n : ℕ) → InMonth k n → held (dayOf k n) ≡ true → bit set n ≡ true)
+    → SetOf part held k set
+wide-set part held k set same wide = record { decides = λ n i. by-day n i (held (dayOf k n)) refl }
+  where
+    by-day : (n : ℕ) → InMonth k n → (b : Bool) → held (dayOf k n) ≡ b → (bit set n && part (dayOf k n)) ≡ held (dayOf k n)
+    by-day n i true e = rw (wide n i e) (same n i)
+    by-day n i false e = rw (same n i, e) (and-false (bit set n))
+
 pub whole-set : (part held : ℕ → Bool) (k : ℕ) → ((n : ℕ) → InMonth k n → part (dayOf k n) ≡ held (dayOf k n)) → SetOf part held k 4294967294
 whole-set part held k same =
-    record {
-      decides = λ n i.
-          rw (whole-bit n (i .low) (omega (arith, i .high, month-days-range k (i .month) .1))) (same n i);
-    }
+    wide-set part held k 4294967294 same (λ n i e. whole-bit n (i .low) (omega (arith, i .high, month-days-range k (i .month) .1)))
 
 -- and the empty set goes with a month of which no day is held
 pub empty-set : (part held : ℕ → Bool) (k : ℕ) → ((n : ℕ) → InMonth k n → held (dayOf k n) ≡ false) → SetOf part held k 0

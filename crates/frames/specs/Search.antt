@@ -4,7 +4,6 @@ use mathlib.Core.List.{List}
 use Prim.Native.Nat.{ℕ, zero, suc, _-_, min}
 use lib.Dec.{eqb}
 use Rattle.calendar.specs.Below.{leastFrom, lastFrom}
-use Rattle.frames.specs.Minutes.{frameHeld}
 use Rattle.frames.specs.Numbers.{dayHeld}
 
 -- the least held day from low up to high, or high; days count to the end of 2099
@@ -14,14 +13,6 @@ leastDay l low high = leastFrom (dayHeld l) (min high 36525 - low) low
 -- one more than the greatest held day from low up to high, or low
 unfoldable pub lastDay : List ℕ → ℕ → ℕ → ℕ
 lastDay l low high = lastFrom (dayHeld l) (min high 36525 - low) low
-
--- the least held minute from low up to high, or high; minutes count to the end of 2099
-unfoldable pub leastMinute : List ℕ → ℕ → ℕ → ℕ
-leastMinute l low high = leastFrom (frameHeld l) (min high 52596000 - low) low
-
--- one more than the greatest held minute from low up to high, or low
-unfoldable pub lastMinute : List ℕ → ℕ → ℕ → ℕ
-lastMinute l low high = lastFrom (frameHeld l) (min high 52596000 - low) low
 
 -- the c-th of the k numbers from i on that pass a test; the first past them where there are fewer
 unfoldable pub nthFrom : (ℕ → Bool) → ℕ → ℕ → ℕ → ℕ

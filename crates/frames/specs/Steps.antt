@@ -4,7 +4,7 @@ use mathlib.Core.List.{List}
 use mathlib.Core.Path.{_≡_}
 use Prim.Native.Nat.{ℕ, _+_, _-_, _/_, _%_, _<_, _≤_}
 use lib.Dec.{leb, eqb}
-use lib.ListN.{getD}
+use lib.ListN.{getD, set}
 use Rattle.calendar.specs.Window.{monthFirst, monthDays}
 use Rattle.masks.specs.Masks.{bit}
 use Rattle.frames.specs.Cron.{cronDay}
@@ -40,11 +40,32 @@ pub record InMonth (k n : ℕ) : Type 0 where
 pub record SetOf (part held : ℕ → Bool) (k set : ℕ) : Type 0 where
   pub decides : (n : ℕ) → InMonth k n → (bit set n && part (dayOf k n)) ≡ held (dayOf k n)
 
--- where a step stands: at day d of month k, below the end of the range; the start's month is known
-pub record Here (l : List ℕ) (start k d high : ℕ) : Type 0 where
-  pub begun : start ≡ startMonth l
+-- day d lies in month k of the window
+pub record Holds (k d : ℕ) : Type 0 where
   pub month : k < 1200
   pub from : monthFirst k ≤ d
   pub to : d < monthFirst k + monthDays k
-  pub below : d < high
-  pub top : high ≤ 36525
+
+-- a frame made ready for a walk: the start's month, the last month of the walk and its last day stand after the frame's own numbers
+unfoldable pub readied : List ℕ → ℕ → ℕ → List ℕ
+readied l month day = set (set (set l 12 (startMonth l)) 13 month) 14 day
+
+pub record Ready (l : List ℕ) : Type 0 where
+  pub begun : getD l 12 0 ≡ startMonth l
+  pub ends : Holds (getD l 13 0) (getD l 14 0)
+
+-- where a walk up stands, at day d of month k, not past its last day; and one down
+pub record Up (l : List ℕ) (k d : ℕ) : Type 0 where
+  pub ready : Ready l
+  pub here : Holds k d
+  pub before : d ≤ getD l 14 0
+
+pub record Down (l : List ℕ) (k d : ℕ) : Type 0 where
+  pub ready : Ready l
+  pub here : Holds k d
+  pub after : getD l 14 0 ≤ d
+
+-- no day from low up to high is held
+pub record Passed (held : ℕ → Bool) (low high : ℕ) : Type 0 where
+  pub rises : low ≤ high
+  pub none : (j : ℕ) → low ≤ j → j < high → j < 36525 → held j ≡ false

@@ -1,16 +1,13 @@
-// One cron or rule frame on local days and minutes.
+// One cron or rule frame on local days: which it holds, and the least and the last of a range.
 mod back;
 pub mod count;
+mod counted;
 mod days;
-pub mod lists;
-pub mod minutes;
 mod months;
 pub mod numbers;
-mod one;
-mod ranges;
+pub mod ranges;
 mod rules;
 mod steps;
-mod times;
 mod truth;
 
 // Frame 03: the masks of the five fields; flag bit 0 says that the day of month is restricted, bit 1 that the day of week is.

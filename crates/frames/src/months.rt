@@ -1,8 +1,9 @@
 // What a frame says of a whole month: the month test, and the positions of a monthly rule.
 ghost use mathlib.Core.Path.{_≡_};
 ghost use mathlib.Core.Bool.{true, false, _||_};
-ghost use Prim.Native.Nat.{ℕ, _+_, _/_, _%_, _^_, _≤_, _<_};
+ghost use Prim.Native.Nat.{ℕ, _+_, _-_, _/_, _%_, _^_, _≤_, _<_};
 ghost use lib.Dec.{eqb};
+ghost use lib.ListN.{getD};
 ghost use Rattle.calendar.specs.Window.{monthDays, localDate};
 ghost use Rattle.masks.specs.Masks.{bit, maskFrom, bitsBelow, bitsFrom};
 ghost use Rattle.frames.specs.Cron.{cronDay};
@@ -16,6 +17,8 @@ use crate::numbers;
 use crate::rules;
 use crate::truth::both;
 use crate::truth::either;
+use calendar::window;
+use calendar::year;
 
 // No bit of the mask is at or below `len`.
 fn none_within(mask: u64, len: u64) -> bool
@@ -26,8 +29,8 @@ fn none_within(mask: u64, len: u64) -> bool
 }
 
 // A cron frame's month: its own mask, and a wanted day that the month has.
-fn cron_mask(f: Cron, k: u64, len: u64) -> u64
-    requires { ⌜ (k < 1200) × (len ≡ monthDays k) ⌝ }
+fn cron_mask(f: Cron, k: u64) -> u64
+    requires { ⌜ k < 1200 ⌝ }
     ensures { λ r. ⌜ SetOf (cronDay f) (cronDay f) k r ⌝ }
 {
     if !masks::test(f.months, k % 12 + 1) {
@@ -36,10 +39,10 @@ fn cron_mask(f: Cron, k: u64, len: u64) -> u64
     if f.flags % 4 == 3 {
         return 4294967294;
     }
-    if none_within(f.days, len) {
+    if none_within(f.days, window::month_days(k)) {
         return 0;
     }
-    4294967294
+    f.days
 }
 
 // Every interval'th month of a rule whose periods are months.
@@ -74,35 +77,61 @@ fn too_short(f: Rule, len: u64) -> bool
 }
 
 // The days of month k that a day's own part decides of; 0 where no day of it can be held.
-pub(crate) fn month_mask(f: &[u64; 16], start: u64, k: u64, len: u64) -> u64
-    requires { ⌜ (k < 1200) × (len ≡ monthDays k) × (start ≡ startMonth (now f)) ⌝ }
+pub(crate) fn month_mask(f: &[u64; 16], k: u64) -> u64
+    requires { ⌜ (k < 1200) × (getD (now f) 12 0 ≡ startMonth (now f)) ⌝ }
     ensures { λ r. ⌜ SetOf (dayPart (now (f .entry))) (dayHeld (now (f .entry))) k r ⌝ }
 {
     if f[0] == 3 {
-        return cron_mask(numbers::cron_of(f), k, len);
+        return cron_mask(numbers::cron_of(f), k);
     }
     if f[0] == 4 {
-        return rule_mask(numbers::rule_of(f), start, k, len);
+        return rule_mask(numbers::rule_of(f), f[12], k);
     }
     0
 }
 
 // A rule frame's month: its interval, a wanted day that the month has, and the positions.
-fn rule_mask(f: Rule, start: u64, k: u64, len: u64) -> u64
-    requires { ⌜ (k < 1200) × (len ≡ monthDays k) × (start ≡ localDate (f .start / 1440) .month) ⌝ }
+fn rule_mask(f: Rule, start: u64, k: u64) -> u64
+    requires { ⌜ (k < 1200) × (start ≡ localDate (f .start / 1440) .month) ⌝ }
     ensures { λ r. ⌜ SetOf (rulePart f) (ruleDay f) k r ⌝ }
 {
     if !month_counts(f, start, k) {
         return 0;
     }
+    let len = window::month_days(k);
     if too_short(f, len) {
         return 0;
     }
     let positions = f.positions;
     if days::no_limit(positions) {
-        return 4294967294;
+        return plain_days(f, k);
     }
     places(f, k, len)
+}
+
+// The days of a month whose weekday is in the mask: the mask turned to the first day's weekday, week after week.
+fn week_days(weekdays: u64, first: u64) -> u64
+    requires { ⌜ first < 7 ⌝ }
+    ensures { λ r. ⌜ ((n : ℕ) → 1 ≤ n → n ≤ 31 → bit r n ≡ bit weekdays ((first + (n - 1)) % 7)) ⌝ }
+{
+    let week = weekdays % 128;
+    let turned = ((week * 129) >> first) % 128;
+    turned * 541098242
+}
+
+// Days of month k among which all of the rule's day set are: those of its weekdays, where it has no ordinals.
+fn plain_days(f: Rule, k: u64) -> u64
+    requires { ⌜ k < 1200 ⌝ }
+    ensures { λ r. ⌜ ((n : ℕ) → InMonth k n → inSet f (dayOf k n) ≡ true → bit r n ≡ true) ⌝ }
+{
+    if f.weekdays == 0 {
+        return 4294967294;
+    }
+    let ordinals = f.ordinals;
+    if !days::no_limit(ordinals) {
+        return 4294967294;
+    }
+    week_days(f.weekdays, year::weekday(730119 + window::month_first(k)))
 }
 
 // The day set of a rule's month.
@@ -110,7 +139,7 @@ fn day_set(f: Rule, k: u64, len: u64) -> u64
     requires { ⌜ (k < 1200) × (len ≡ monthDays k) ⌝ }
     ensures { λ r. ⌜ r ≡ maskFrom (λ n. inSet f (dayOf k n)) len 1 ⌝ }
 {
-    let first = calendar::window::month_first(k);
+    let first = window::month_first(k);
     let mut set = 0;
     let mut n = 1;
     while n <= len {

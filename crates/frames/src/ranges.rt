@@ -3,17 +3,18 @@ ghost use mathlib.Core.Path.{_≡_};
 ghost use Prim.Native.Nat.{min, max};
 ghost use Rattle.frames.specs.Numbers.{startMonth};
 ghost use Rattle.frames.specs.Search.{leastDay, lastDay};
+ghost use Rattle.frames.specs.Steps.{readied};
 use crate::back;
 use crate::steps;
 use calendar::window;
 
-pub(crate) fn at_most(n: u64, limit: u64) -> u64
+pub fn at_most(n: u64, limit: u64) -> u64
     ensures { λ r. ⌜ r ≡ min n limit ⌝ }
 {
     if limit < n { limit } else { n }
 }
 
-pub(crate) fn at_least(n: u64, limit: u64) -> u64
+pub fn at_least(n: u64, limit: u64) -> u64
     ensures { λ r. ⌜ r ≡ max n limit ⌝ }
 {
     if n < limit { limit } else { n }
@@ -26,28 +27,39 @@ fn start_month(f: &[u64; 16]) -> u64
     place.month
 }
 
+// The frame with what a walk goes by: its start's month, and the last month and day of the walk.
+fn ready(f: &[u64; 16], month: u64, day: u64) -> [u64; 16]
+    ensures { λ r. ⌜ r ≡ readied (now (f .entry)) month day ⌝ }
+{
+    let mut g = *f;
+    g[12] = start_month(f);
+    g[13] = month;
+    g[14] = day;
+    g
+}
+
 // The least held day from low up to high, or high.
-pub(crate) fn least_day(f: &[u64; 16], low: u64, high: u64) -> u64
+pub fn least_day(f: &[u64; 16], low: u64, high: u64) -> u64
     ensures { λ r. ⌜ r ≡ leastDay (now (f .entry)) low high ⌝ }
 {
     let end = at_most(high, 36525);
     if end <= low {
         return low;
     }
-    let start = start_month(f);
-    let place = window::local_date(low);
-    steps::month_step(f, start, place.month, low, end)
+    let last = window::local_date(end - 1);
+    let g = ready(f, last.month, end - 1);
+    steps::from_day(&g, low)
 }
 
 // One more than the greatest held day from low up to high, or low.
-pub(crate) fn last_day(f: &[u64; 16], low: u64, high: u64) -> u64
+pub fn last_day(f: &[u64; 16], low: u64, high: u64) -> u64
     ensures { λ r. ⌜ r ≡ lastDay (now (f .entry)) low high ⌝ }
 {
     let end = at_most(high, 36525);
     if end <= low {
         return low;
     }
-    let start = start_month(f);
-    let place = window::local_date(end - 1);
-    back::month_back(f, start, place.month, low, end - 1)
+    let last = window::local_date(low);
+    let g = ready(f, last.month, low);
+    back::back_from_day(&g, end - 1)
 }

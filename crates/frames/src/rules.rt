@@ -55,5 +55,8 @@ pub(crate) fn rule_part(f: Rule, d: u64, day: u64, back: u64) -> bool
     if d < f.start / 1440 {
         return false;
     }
-    both(day_counts(f, d), in_set(f, d, day, back))
+    if !day_counts(f, d) {
+        return false;
+    }
+    in_set(f, d, day, back)
 }

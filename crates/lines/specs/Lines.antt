@@ -1,8 +1,10 @@
 -- "Each line .. and then LF (0A)."
 use mathlib.Core.Bool.{true, false}
 use mathlib.Core.List.{List, [], _∷_}
-use Prim.Native.Nat.{ℕ}
+use Prim.Native.Nat.{ℕ, _-_}
 use lib.Dec.{eqb}
+use lib.ListN.{length, getD}
+use Rattle.calendar.specs.Below.{leastFrom}
 
 -- the lines of a text, each without its LF, and what stands after the last LF
 pub record Lines : Type 0 where
@@ -19,3 +21,7 @@ linesOf [] = record { whole = []; tail = [] }
 linesOf (c ∷ cs) =
     let rest = linesOf cs in
     elim (eqb c 10) [ true ↦ record { whole = [] ∷ rest .whole; tail = rest .tail } | false ↦ before c (rest .whole) (rest .tail) ]
+
+-- the place of the first LF from a place on, or the text's end
+unfoldable pub lineEnd : List ℕ → ℕ → ℕ
+lineEnd text at = leastFrom (λ i. eqb (getD text i 0) 10) (length text - at) at

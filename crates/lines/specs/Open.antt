@@ -1,6 +1,7 @@
 -- Opens every definition of the crate and of those below it at once, for the files that compute them.
-use Rattle.lines.specs.Lines.{linesOf}
+use Rattle.calendar.specs.Open.{opened as calendar-opened}
+use Rattle.lines.specs.Lines.{linesOf, lineEnd}
 
 unfoldable pub opened : Unit {0}
-unfolding linesOf
+unfolding calendar-opened linesOf lineEnd
 opened = tt

@@ -1,2 +1,9 @@
--- What the plans of the bench list hold.
+-- The laws of plans.
+pub mod Readings
+pub mod Rows
+pub mod Frames
+pub mod Fitting
+pub mod Joined
+pub mod Loading
+pub mod Placing
 pub mod Cases

@@ -1,28 +1,30 @@
 -- "The plan": frames as lines of hex, and lines as frames.
-use mathlib.Core.Bool.{Bool, true, false, cond, _&&_}
+use mathlib.Core.Bool.{Bool, cond, _&&_}
 use mathlib.Core.List.{List, [], _∷_, _++_}
 use mathlib.Core.Option.{Option, none, some}
-use Prim.Native.Nat.{ℕ, zero, suc, _+_, _-_, _*_, _/_, _%_, _^_}
-use lib.Dec.{ltb, eqb}
-use lib.ListN.{length, take, drop}
-use Rattle.calendar.specs.Below.{within}
+use Prim.Native.Nat.{ℕ, _+_, _-_, _%_, _^_}
+use lib.Dec.{eqb}
+use lib.ListN.{length}
 use Rattle.frames.specs.declared.Cron.{Cron}
+use Rattle.frames.specs.declared.Ends.{Ends}
 use Rattle.frames.specs.declared.Rule.{Rule}
-use Rattle.lines.specs.Bytes.{byte}
+use Rattle.hex.specs.Hex.{hexOf, lineBytes, field}
+use Rattle.zone.specs.declared.Transition.{Transition}
 use Rattle.plan.specs.declared.Frame.{Frame}
-
--- "Upper-case hex digits."
-unfoldable pub hexDigit : ℕ → ℕ
-hexDigit n = cond (ltb n 10) (byte "0" + n) (byte "A" + (n - 10))
-
--- a number of k bytes, "big-endian"
-unfoldable pub hexOf : ℕ → ℕ → List ℕ
-hexOf zero v = []
-hexOf (suc k) v = hexOf k (v / 256) ++ (hexDigit (v / 16 % 16) ∷ hexDigit (v % 16) ∷ [])
 
 -- "Offsets and instants in two's complement": what the inside has moved up by a day, as a number of k bytes
 unfoldable pub moved : ℕ → ℕ → ℕ
 moved k v = (v + 256 ^ k - 1440) % 256 ^ k
+
+-- a frame with its offsets and instants so
+unfoldable pub movedFrame : Frame → Frame
+movedFrame (Frame.Offset o) = Frame.Offset (moved 2 o)
+movedFrame (Frame.Change t) = Frame.Change (record { at = moved 4 (t .at); offset = moved 2 (t .offset) })
+movedFrame (Frame.Cron f) = Frame.Cron f
+movedFrame (Frame.Rule f) = Frame.Rule f
+movedFrame (Frame.Extra m) = Frame.Extra m
+movedFrame (Frame.Excepted m) = Frame.Excepted m
+movedFrame (Frame.End n) = Frame.End n
 
 -- a frame's line without LF
 unfoldable pub frameLine : Frame → List ℕ
@@ -47,75 +49,56 @@ frameLine (Frame.Extra m) = hexOf 1 5 ++ hexOf 4 m
 frameLine (Frame.Excepted m) = hexOf 1 6 ++ hexOf 4 m
 frameLine (Frame.End n) = hexOf 1 255 ++ hexOf 1 n
 
+-- the line with its LF
+abbrev pub wholeLine : Frame → List ℕ
+wholeLine f = frameLine f ++ (10 ∷ [])
+
 -- "One frame a line: upper-case hex digits, LF."
 unfoldable pub planText : List Frame → List ℕ
 planText [] = []
 planText (f ∷ fs) = frameLine f ++ (10 ∷ planText fs)
 
--- the value of a hex digit; 16 for any other byte
-unfoldable pub digitValue : ℕ → ℕ
-digitValue c = cond (within (byte "0") (byte "9") c) (c - byte "0") (cond (within (byte "A") (byte "F") c) (c - byte "A" + 10) 16)
+-- a field of two's complement, moved up by a day; `get at k` is the number of the k bytes from a place on
+abbrev pub movedUp : (ℕ → ℕ → ℕ) → ℕ → ℕ → ℕ
+movedUp get at k = (get at k + 1440) % 256 ^ k
 
--- the bytes that a line's digits spell, two digits each
-unfoldable pub lineBytes : List ℕ → Option (List ℕ)
-lineBytes [] = some []
-lineBytes (a ∷ []) = none
-lineBytes (a ∷ b ∷ cs) =
-    elim (ltb (digitValue a) 16 && ltb (digitValue b) 16) [
-      | true ↦ elim (lineBytes cs) [ none ↦ none | some bytes ↦ some ((16 * digitValue a + digitValue b) ∷ bytes) ]
-      | false ↦ none
-    ]
+abbrev pub changeFrom : (ℕ → ℕ → ℕ) → Transition
+changeFrom get = record { at = movedUp get 1 4; offset = movedUp get 5 2 }
 
--- the number that bytes spell, "big-endian"
-unfoldable pub bytesNumber : ℕ → List ℕ → ℕ
-bytesNumber so-far [] = so-far
-bytesNumber so-far (b ∷ bs) = bytesNumber (256 * so-far + b) bs
+unfoldable pub cronFrom : (ℕ → ℕ → ℕ) → Cron
+cronFrom get =
+    record { minutes = get 1 8; hours = get 9 4; days = get 13 4; months = get 17 2; weekdays = get 19 1; flags = get 20 1 }
 
--- the k bytes from a place on, as a number; and moved up by a day
-abbrev pub field : List ℕ → ℕ → ℕ → ℕ
-field bytes at k = bytesNumber 0 (take k (drop at bytes))
+-- a field and the same from the end
+abbrev pub endsFrom : (ℕ → ℕ → ℕ) → ℕ → ℕ → Ends
+endsFrom get at k = record { front = get at k; back = get (at + k) k }
 
-abbrev pub movedUp : List ℕ → ℕ → ℕ → ℕ
-movedUp bytes at k = (field bytes at k + 1440) % 256 ^ k
+unfoldable pub ruleFrom : (ℕ → ℕ → ℕ) → Rule
+ruleFrom get =
+    record {
+      frequency = get 1 1;
+      interval = get 2 2;
+      start = get 4 4;
+      last = get 8 4;
+      weekdays = get 12 1;
+      days = endsFrom get 13 4;
+      ordinals = endsFrom get 21 5;
+      positions = endsFrom get 31 4;
+    }
 
-cronOf : List ℕ → Frame
-cronOf b =
-    Frame.Cron
-    (record {
-      minutes = field b 1 8;
-      hours = field b 9 4;
-      days = field b 13 4;
-      months = field b 17 2;
-      weekdays = field b 19 1;
-      flags = field b 20 1;
-    })
+-- a frame of the listed kinds, each with its length: n bytes, by their fields
+unfoldable pub frameFrom : (ℕ → ℕ → ℕ) → ℕ → Option Frame
+frameFrom get n =
+    let is : ℕ → ℕ → Bool = λ kind size. eqb (get 0 1) kind && eqb n size in
+    cond (is 1 3) (some (Frame.Offset (movedUp get 1 2)))
+    (cond (is 2 7) (some (Frame.Change (changeFrom get)))
+    (cond (is 3 21) (some (Frame.Cron (cronFrom get)))
+    (cond (is 4 39) (some (Frame.Rule (ruleFrom get)))
+    (cond (is 5 5) (some (Frame.Extra (get 1 4)))
+    (cond (is 6 5) (some (Frame.Excepted (get 1 4))) (cond (is 255 2) (some (Frame.End (get 1 1))) none))))))
 
-ruleOf : List ℕ → Frame
-ruleOf b =
-    Frame.Rule
-    (record {
-      frequency = field b 1 1;
-      interval = field b 2 2;
-      start = field b 4 4;
-      last = field b 8 4;
-      weekdays = field b 12 1;
-      days = record { front = field b 13 4; back = field b 17 4 };
-      ordinals = record { front = field b 21 5; back = field b 26 5 };
-      positions = record { front = field b 31 4; back = field b 35 4 };
-    })
-
--- a frame of the listed kinds, each with its length
 unfoldable pub bytesFrame : List ℕ → Option Frame
-unfolding cronOf ruleOf
-bytesFrame b =
-    let kind = field b 0 1 in
-    let is : ℕ → ℕ → Bool = λ k n. eqb kind k && eqb (length b) n in
-    cond (is 1 3) (some (Frame.Offset (movedUp b 1 2)))
-    (cond (is 2 7) (some (Frame.Change (record { at = movedUp b 1 4; offset = movedUp b 5 2 })))
-    (cond (is 3 21) (some (cronOf b))
-    (cond (is 4 39) (some (ruleOf b))
-    (cond (is 5 5) (some (Frame.Extra (field b 1 4)))
-    (cond (is 6 5) (some (Frame.Excepted (field b 1 4))) (cond (is 255 2) (some (Frame.End (field b 1 1))) none))))))
+bytesFrame b = frameFrom (field b) (length b)
 
 unfoldable pub lineFrame : List ℕ → Option Frame
 lineFrame line = elim (lineBytes line) [ none ↦ none | some bytes ↦ bytesFrame bytes ]

@@ -3,6 +3,9 @@ use frames::Cron;
 use frames::Rule;
 use zone::Transition;
 
+mod puts;
+pub mod text;
+
 // One line of a plan. Offsets, instants and local minutes are those of the inside.
 pub enum Frame {
     Offset(u64),

@@ -4,7 +4,7 @@ ghost use Rattle.zone.specs.Zone.{offsetAt};
 ghost use Rattle.zone.specs.Held.{offsetsOf};
 ghost use Rattle.zone.specs.Limits.{startOf, addedTo};
 ghost use Rattle.zone.specs.Stretches.{stretchLocal};
-ghost use Rattle.frames.specs.Lists.{firstOf, listLeast, listLast};
+ghost use Rattle.held.specs.Lists.{firstOf, listLeast, listLast};
 ghost use Rattle.frames.specs.Search.{nthDay};
 ghost use Rattle.probe.specs.Probed.{limitNumber, zoneAnswer, instantAnswer};
 use zone::Transition;
@@ -90,7 +90,7 @@ pub extern "C" fn probe_instant_of_local(zone: Zone, m: u64) -> ProbeInstant
 pub extern "C" fn probe_list_least(fs: &[[u64; 16]; 64], count: usize, low: u64, high: u64) -> u64
     ensures { λ r. ⌜ r ≡ listLeast (firstOf count (now (fs .entry))) low high ⌝ }
 {
-    frames::lists::list_least(fs, count, low, high)
+    held::lists::list_least(fs, count, low, high)
 }
 
 // One more than the greatest held local minute of frames in a range, or the range's start.
@@ -98,7 +98,7 @@ pub extern "C" fn probe_list_least(fs: &[[u64; 16]; 64], count: usize, low: u64,
 pub extern "C" fn probe_list_last(fs: &[[u64; 16]; 64], count: usize, low: u64, high: u64) -> u64
     ensures { λ r. ⌜ r ≡ listLast (firstOf count (now (fs .entry))) low high ⌝ }
 {
-    frames::lists::list_last(fs, count, low, high)
+    held::lists::list_last(fs, count, low, high)
 }
 
 // The day of the count-th occurrence of a rule from a day on, or the first day past 2099.

@@ -16,7 +16,7 @@ pub enum Instant {
 }
 
 // The local minute at which the stretch before a transition ends: held to the window, so that no sum is too large.
-fn end_before(before: u64, change: Transition) -> u64
+pub fn end_before(before: u64, change: Transition) -> u64
     ensures { λ r. ⌜ r ≡ boundary before change ⌝ }
 {
     let offset = num::larger(before, change.offset);

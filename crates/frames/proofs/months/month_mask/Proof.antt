@@ -26,15 +26,17 @@ element-copy-out-if2 c = search needs
 rule-of-requires : tie.Need-rule-of-requires
 rule-of-requires c κs = search needs
 
+element-copy-out-rule-mask : tie.Need-element-copy-out-rule-mask
+element-copy-out-rule-mask c = search needs
+
 rule-mask-requires : tie.Need-rule-mask-requires
 unfolding startMonth
-rule-mask-requires c κs =
-    let s = c .before .before .before .before .before in
-    (s .pre .0, s .pre .1, rw (c .rule-of .ensures) (s .pre .2))
+rule-mask-requires c κs = let s = c .before .before .before .before .before .before in
+    (s .pre .0, rw (c .before .rule-of .ensures) (s .pre .1))
 
 returns-2 : tie.Need-returns-2
 unfolding dayPart dayHeld
-returns-2 c = record { decides = λ n i. rw (ne-eqb _ _ (c .before .before .before .before .if1 .left), eq-eqb _ _ (c .before .before .if2 .taken)) ((rw (c .before .rule-of .ensures) at (c .rule-mask .ensures)) .decides n i) }
+returns-2 c = record { decides = λ n i. rw (ne-eqb _ _ (c .before .before .before .before .before .if1 .left), eq-eqb _ _ (c .before .before .before .if2 .taken)) ((rw (c .before .before .rule-of .ensures) at (c .rule-mask .ensures)) .decides n i) }
 
 returns-3 : tie.Need-returns-3
 unfolding dayPart dayHeld
@@ -50,6 +52,7 @@ month-mask-spec =
     returns
     element-copy-out-if2
     rule-of-requires
+    element-copy-out-rule-mask
     rule-mask-requires
     returns-2
     returns-3)

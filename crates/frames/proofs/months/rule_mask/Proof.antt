@@ -16,37 +16,41 @@ month-counts-requires : tie.Need-month-counts-requires
 month-counts-requires c κs = search needs
 
 returns : tie.Need-returns
-returns c =
-    let s = c .before .before in
-    month-out (s .args .f) (s .args .start) (s .args .k) (s .pre .2) (sym (c .before .month-counts .ensures) ∙ not-true (c .before .month-counts .result) (c .if1 .taken))
+returns c = let s = c .before .before in
+    month-out (s .args .f) (s .args .start) (s .args .k) (s .pre .1) (sym (c .before .month-counts .ensures) ∙ not-true (c .before .month-counts .result) (c .if1 .taken))
+
+month-days-requires : tie.Need-month-days-requires
+month-days-requires c κs = search needs
 
 too-short-requires : tie.Need-too-short-requires
-too-short-requires c κs =
-    let s = c .before .before in
-    omega (arith, s .pre .1, month-days-range (s .args .k) (s .pre .0) .1)
+too-short-requires c κs = let s = c .before .before .before in
+    omega (arith, c .month-days .ensures, month-days-range (s .args .k) (s .pre .0) .1)
 
 returns-2 : tie.Need-returns-2
-returns-2 c =
-    let s = c .before .before .before .before in
-    short-month (s .args .f) (s .args .k) (s .args .len) (s .pre .1) (c .before .too-short .ensures (c .if2 .taken))
+returns-2 c = let s = c .before .before .before .before .before in
+    short-month (s .args .f) (s .args .k) _ (c .before .before .month-days .ensures) (c .before .too-short .ensures (c .if2 .taken))
 
 no-limit-requires : tie.Need-no-limit-requires
 no-limit-requires c κs = search needs
 
+plain-days-requires : tie.Need-plain-days-requires
+plain-days-requires c κs = search needs
+
 returns-3 : tie.Need-returns-3
-returns-3 c =
-    let s = c .before .before .before .before .before .before .before in
-    month-free (s .args .f) (s .args .start) (s .args .k) (s .pre .2) (sym (c .before .before .before .before .before .before .month-counts .ensures) ∙ not-false (c .before .before .before .before .before .before .month-counts .result) (c .before .before .before .before .before .if1 .left)) (sym (c .before .no-limit .ensures) ∙ c .if3 .taken)
+returns-3 c = let s = c .before .before .before .before .before .before .before .before .before in
+    let m = c .before .before .before .before .before .before .before .before .month-counts in
+    month-free (s .args .f) (s .args .start) (s .args .k) (s .pre .1) _ (sym (m .ensures) ∙ not-false (m .result) (c .before .before .before .before .before .before .before .if1 .left)) (sym (c .before .before .no-limit .ensures) ∙ c .before .if3 .taken)
+    (c .plain-days .ensures)
 
 places-requires : tie.Need-places-requires
-places-requires c κs =
-    let s = c .before .before .before .before .before .before .before in
-    (s .pre .0, s .pre .1, sym (c .before .no-limit .ensures) ∙ c .if3 .left)
+places-requires c κs = let s = c .before .before .before .before .before .before .before .before in
+    (s .pre .0, c .before .before .before .before .before .month-days .ensures, sym (c .before .no-limit .ensures) ∙ c .if3 .left)
 
 returns-4 : tie.Need-returns-4
-returns-4 c =
-    let s = c .before .before .before .before .before .before .before .before in
-    month-picked (s .args .f) (s .args .start) (s .args .k) (s .pre .2) _ (sym (c .before .before .before .before .before .before .before .month-counts .ensures) ∙ not-false (c .before .before .before .before .before .before .before .month-counts .result) (c .before .before .before .before .before .before .if1 .left)) (c .places .ensures ∙ ap (λ (m : ℕ). maskFrom (λ j. placed (s .args .f) (dayOf (s .args .k) j)) m 1) (s .pre .1))
+returns-4 c = let s = c .before .before .before .before .before .before .before .before .before in
+    let m = c .before .before .before .before .before .before .before .before .month-counts in
+    month-picked (s .args .f) (s .args .start) (s .args .k) (s .pre .1) _ (sym (m .ensures) ∙ not-false (m .result) (c .before .before .before .before .before .before .before .if1 .left))
+    (c .places .ensures ∙ ap (λ (m : ℕ). maskFrom (λ j. placed (s .args .f) (dayOf (s .args .k) j)) m 1) (c .before .before .before .before .before .before .month-days .ensures))
 
 pub rule-mask-spec : {M : Type 1} → statement M
 rule-mask-spec =
@@ -54,9 +58,11 @@ rule-mask-spec =
     (tie.spec
     month-counts-requires
     returns
+    month-days-requires
     too-short-requires
     returns-2
     no-limit-requires
+    plain-days-requires
     returns-3
     places-requires
     returns-4)

@@ -1,12 +1,16 @@
--- The day before the end stands in its month, and the steps go down from there.
-use mathlib.Core.Path.{_≡_}
-use Prim.Native.Nat.{_+_, _-_}
+-- The steps go down from the day before the end.
+use mathlib.Core.Path.{_≡_, ap, _∙_}
+use Prim.Native.Nat.{ℕ, _-_}
 use native.Mathlib.Omega.{arith}
 use borrow.Author.Needs.{needs}
 use denote.Ref.{now}
+use lib.ListN.{length}
+use Rattle.calendar.specs.declared.year.MonthDay.{MonthDay}
 use Rattle.frames.specs.Numbers.{dayHeld}
 use Rattle.frames.specs.Search.{lastDay}
-use Rattle.frames.proofs.Answers.{last-is, last-empty, here-at}
+use Rattle.frames.specs.Steps.{readied}
+use Rattle.frames.proofs.Answers.{last-is, last-empty}
+use Rattle.frames.proofs.Readied.{walk-down, found-down}
 use Rattle.frames.proofs.ranges.last_day.Statement.{statement}
 use Rattle.frames.proofs.ranges.last_day.Tie as tie
 
@@ -15,34 +19,36 @@ at-most-requires c κs = search needs
 
 returns : tie.Need-returns
 unfolding lastDay
-returns c =
-    let a = c .before .before .args in
+returns c = let a = c .before .before .args in
     rw (← c .before .at-most .ensures) (last-empty (dayHeld (now (a .f))) (a .low) (c .before .at-most .result) (c .if1 .taken))
-
-start-month-requires : tie.Need-start-month-requires
-start-month-requires c κs = search needs
-
-sub-local-date : tie.Need-sub-local-date
-sub-local-date c = search needs
 
 local-date-requires : tie.Need-local-date-requires
 local-date-requires c κs = search needs
 
-sub-month-back : tie.Need-sub-month-back
-sub-month-back c = search needs
+ready-requires : tie.Need-ready-requires
+ready-requires c κs = search needs
 
-month-back-requires : tie.Need-month-back-requires
-month-back-requires c κs =
-    let a = c .before .before .before .before .args in
-    (rw (c .before .start-month .ensures, c .local-date .ensures) (here-at (now (a .f)) (c .before .before .before .at-most .result - 1) (c .before .before .before .at-most .result - 1 + 1) (omega arith) (omega (arith, c .before .before .before .at-most .ensures))), omega arith)
+sub-back-from-day : tie.Need-sub-back-from-day
+sub-back-from-day c = search needs
+
+back-from-day-requires : tie.Need-back-from-day-requires
+back-from-day-requires c κs = let a = c .before .before .before .before .before .args in
+    let end = c .before .before .before .before .at-most in
+    let r = c .before .ready in
+    let n : length (r .result) ≡ 16 = search needs in
+    let e = r .ensures ∙ ap (λ (k : ℕ). readied (now (a .f)) k (a .low)) (ap (λ (q : MonthDay). q .month) (c .before .before .local-date .ensures)) in
+    rw e (walk-down (now (a .f)) (a .low) (end .result) (omega arith) (omega (arith, end .ensures)) (rw e at n))
 
 returns-2 : tie.Need-returns-2
 unfolding lastDay
-returns-2 c =
-    let a = c .before .before .before .before .before .args in
-    let e : c .before .before .before .before .at-most .result - 1 + 1 ≡ c .before .before .before .before .at-most .result = omega arith in
-    rw (← c .before .before .before .before .at-most .ensures)
-    (last-is (dayHeld (now (a .f))) (a .low) (c .before .before .before .before .at-most .result) _ (omega arith) (rw e at (c .month-back .ensures)))
+returns-2 c = let a = c .before .before .before .before .before .before .args in
+    let end = c .before .before .before .before .before .at-most in
+    let r = c .before .before .ready in
+    let n : length (r .result) ≡ 16 = search needs in
+    let e = r .ensures ∙ ap (λ (k : ℕ). readied (now (a .f)) k (a .low)) (ap (λ (q : MonthDay). q .month) (c .before .before .before .local-date .ensures)) in
+    rw (← end .ensures)
+    (last-is (dayHeld (now (a .f))) (a .low) (end .result) _ (omega arith)
+    (found-down (now (a .f)) (a .low) (end .result) (omega arith) (omega (arith, end .ensures)) (rw e at n) _ (rw e at (c .back-from-day .ensures))))
 
 pub last-day-spec : {M : Type 1} → statement M
 last-day-spec =
@@ -50,9 +56,8 @@ last-day-spec =
     (tie.spec
     at-most-requires
     returns
-    start-month-requires
-    sub-local-date
     local-date-requires
-    sub-month-back
-    month-back-requires
+    ready-requires
+    sub-back-from-day
+    back-from-day-requires
     returns-2)

@@ -1,10 +1,16 @@
--- The low end stands in its month, and the steps go up from there.
+-- The steps go up from the low end.
+use mathlib.Core.Path.{_≡_, ap, _∙_}
+use Prim.Native.Nat.{ℕ, _-_}
 use native.Mathlib.Omega.{arith}
 use borrow.Author.Needs.{needs}
 use denote.Ref.{now}
+use lib.ListN.{length}
+use Rattle.calendar.specs.declared.year.MonthDay.{MonthDay}
 use Rattle.frames.specs.Numbers.{dayHeld}
 use Rattle.frames.specs.Search.{leastDay}
-use Rattle.frames.proofs.Answers.{least-is, least-empty, here-at}
+use Rattle.frames.specs.Steps.{readied}
+use Rattle.frames.proofs.Answers.{least-is, least-empty}
+use Rattle.frames.proofs.Readied.{walk-up, found-up}
 use Rattle.frames.proofs.ranges.least_day.Statement.{statement}
 use Rattle.frames.proofs.ranges.least_day.Tie as tie
 
@@ -13,28 +19,39 @@ at-most-requires c κs = search needs
 
 returns : tie.Need-returns
 unfolding leastDay
-returns c =
-    let a = c .before .before .args in
+returns c = let a = c .before .before .args in
     rw (← c .before .at-most .ensures) (least-empty (dayHeld (now (a .f))) (a .low) (c .before .at-most .result) (c .if1 .taken))
 
-start-month-requires : tie.Need-start-month-requires
-start-month-requires c κs = search needs
+sub-local-date : tie.Need-sub-local-date
+sub-local-date c = search needs
 
 local-date-requires : tie.Need-local-date-requires
 local-date-requires c κs = search needs
 
-month-step-requires : tie.Need-month-step-requires
-month-step-requires c κs =
-    let a = c .before .before .before .before .args in
-    rw (c .before .start-month .ensures, c .local-date .ensures)
-    (here-at (now (a .f)) (a .low) (c .before .before .before .at-most .result) (omega arith) (omega (arith, c .before .before .before .at-most .ensures)))
+sub-ready : tie.Need-sub-ready
+sub-ready c = search needs
+
+ready-requires : tie.Need-ready-requires
+ready-requires c κs = search needs
+
+from-day-requires : tie.Need-from-day-requires
+from-day-requires c κs = let a = c .before .before .before .before .before .args in
+    let end = c .before .before .before .before .at-most in
+    let r = c .before .ready in
+    let n : length (r .result) ≡ 16 = search needs in
+    let e = r .ensures ∙ ap (λ (k : ℕ). readied (now (a .f)) k (end .result - 1)) (ap (λ (q : MonthDay). q .month) (c .before .before .local-date .ensures)) in
+    rw e (walk-up (now (a .f)) (a .low) (end .result) (omega arith) (omega (arith, end .ensures)) (rw e at n))
 
 returns-2 : tie.Need-returns-2
 unfolding leastDay
-returns-2 c =
-    let a = c .before .before .before .before .before .args in
-    rw (← c .before .before .before .before .at-most .ensures)
-    (least-is (dayHeld (now (a .f))) (a .low) (c .before .before .before .before .at-most .result) _ (omega arith) (c .month-step .ensures))
+returns-2 c = let a = c .before .before .before .before .before .before .args in
+    let end = c .before .before .before .before .before .at-most in
+    let r = c .before .before .ready in
+    let n : length (r .result) ≡ 16 = search needs in
+    let e = r .ensures ∙ ap (λ (k : ℕ). readied (now (a .f)) k (end .result - 1)) (ap (λ (q : MonthDay). q .month) (c .before .before .before .local-date .ensures)) in
+    rw (← end .ensures)
+    (least-is (dayHeld (now (a .f))) (a .low) (end .result) _ (omega arith)
+    (found-up (now (a .f)) (a .low) (end .result) (omega arith) (omega (arith, end .ensures)) (rw e at n) _ (rw e at (c .from-day .ensures))))
 
 pub least-day-spec : {M : Type 1} → statement M
 least-day-spec =
@@ -42,7 +59,9 @@ least-day-spec =
     (tie.spec
     at-most-requires
     returns
-    start-month-requires
+    sub-local-date
     local-date-requires
-    month-step-requires
+    sub-ready
+    ready-requires
+    from-day-requires
     returns-2)

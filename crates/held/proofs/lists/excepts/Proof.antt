@@ -1,0 +1,23 @@
+-- The definition's two tests.
+use borrow.Author.Needs.{needs}
+use borrow.Author.Tests.{eq-eqb, ne-eqb}
+use Rattle.held.specs.Lists.{frameExcepts}
+use Rattle.held.proofs.lists.excepts.Statement.{statement}
+use Rattle.held.proofs.lists.excepts.Tie as tie
+
+element-copy-out-if1 : tie.Need-element-copy-out-if1
+element-copy-out-if1 c = search needs
+
+element-copy-out-result : tie.Need-element-copy-out-result
+element-copy-out-result c = search needs
+
+returns : tie.Need-returns
+unfolding frameExcepts
+returns c = rw (eq-eqb _ _ (c .before .if1 .taken))
+
+returns-2 : tie.Need-returns-2
+unfolding frameExcepts
+returns-2 c = rw (ne-eqb _ _ (c .if1 .left))
+
+pub excepts-spec : {M : Type 1} → statement M
+excepts-spec = tie.close (tie.spec element-copy-out-if1 element-copy-out-result returns returns-2)

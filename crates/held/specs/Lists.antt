@@ -1,0 +1,34 @@
+-- Several frames together: what some of them hold, less what an excepted minute names.
+use mathlib.Core.Bool.{Bool, not, _&&_}
+use mathlib.Core.List.{List}
+use Prim.Native.Nat.{ℕ, _-_, min}
+use lib.Dec.{eqb}
+use lib.ListN.{getD, take}
+use Rattle.calendar.specs.Below.{anyOf, leastFrom, lastFrom}
+use Rattle.held.specs.Minutes.{frameHeld}
+
+-- kind 6, an excepted minute
+unfoldable pub frameExcepts : List ℕ → ℕ → Bool
+frameExcepts l m = eqb (getD l 0 0) 6 && eqb m (getD l 1 0)
+
+abbrev pub anyHeld : List (List ℕ) → ℕ → Bool
+anyHeld fs m = anyOf (λ (l : List ℕ). frameHeld l m) fs
+
+abbrev pub anyExcepts : List (List ℕ) → ℕ → Bool
+anyExcepts fs m = anyOf (λ (l : List ℕ). frameExcepts l m) fs
+
+-- "All local minutes of C, R and D lines, less those of X lines (wherever they stand)."
+unfoldable pub listHeld : List (List ℕ) → ℕ → Bool
+listHeld fs m = anyHeld fs m && not (anyExcepts fs m)
+
+-- the first so many of 64 frames
+abbrev pub firstOf : ℕ → List (List ℕ) → List (List ℕ)
+firstOf count fs = take (min count 64) fs
+
+-- the least held minute from low up to high, or high; minutes count to the end of 2099
+unfoldable pub listLeast : List (List ℕ) → ℕ → ℕ → ℕ
+listLeast fs low high = leastFrom (listHeld fs) (min high 52596000 - low) low
+
+-- one more than the greatest held minute from low up to high, or low
+unfoldable pub listLast : List (List ℕ) → ℕ → ℕ → ℕ
+listLast fs low high = lastFrom (listHeld fs) (min high 52596000 - low) low

@@ -1,0 +1,3 @@
+-- Lines of hex digits.
+pub mod Hex
+pub mod Open

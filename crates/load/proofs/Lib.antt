@@ -1,0 +1,5 @@
+-- What the proofs of load share.
+pub mod Goods
+pub mod Places
+pub mod Rounds
+pub mod Zones

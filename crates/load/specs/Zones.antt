@@ -1,0 +1,27 @@
+-- The zone that the rows of a plan's frames hold: the first row's offset, and the rows of kind 2 right after it.
+use mathlib.Core.Bool.{true, false}
+use mathlib.Core.List.{List, [], _∷_}
+use Prim.Native.Nat.{ℕ, _+_, _-_, min}
+use lib.Dec.{eqb}
+use lib.ListN.{length, getD, take, drop, replicate}
+use lib.Seq.{sets}
+use Rattle.zone.specs.declared.Transition.{Transition}
+use Rattle.zone.specs.declared.Zone.{Zone}
+
+abbrev pub changeIn : List ℕ → Transition
+changeIn row = record { at = getD row 1 0; offset = getD row 2 0 }
+
+unfoldable pub changesIn : List (List ℕ) → List Transition
+changesIn [] = []
+changesIn (row ∷ rows) = elim (eqb (getD row 0 0) 2) [ true ↦ changeIn row ∷ changesIn rows | false ↦ [] ]
+
+-- a zone with some transitions more
+abbrev pub withChanges : Zone → List Transition → Zone
+withChanges z ts = record { first = z .first; count = z .count + length ts; changes = sets (z .changes) (z .count) ts }
+
+abbrev pub bare : ℕ → Zone
+bare offset = record { first = offset; count = 0; changes = replicate 32 (record { at = 0; offset = 0 }) }
+
+-- a plan has at most 32 transitions, so only the first 33 rows are looked at
+unfoldable pub zoneOf : List (List ℕ) → ℕ → Zone
+zoneOf rows count = withChanges (bare (getD (getD rows 0 []) 1 0)) (changesIn (take (min count 33 - 1) (drop 1 rows)))

@@ -1,0 +1,121 @@
+// Where a frame may stand: 01 first, then up to 32 of 02 under the zone limits, then others.
+ghost use mathlib.Core.Bool.{true};
+ghost use mathlib.Core.Path.{_≡_};
+ghost use Prim.Native.Nat.{_≤_};
+ghost use Rattle.plan.specs.Taken.{start, zoned as zonedAt, lines as linesAt, frameGood, place as placeOf};
+ghost use Rattle.plan.specs.declared.Frame.{Frame};
+ghost use Rattle.zone.specs.Zone.{apart};
+ghost use Rattle.load.specs.Loads.{beforeOf, placedOf};
+use plan::Frame;
+use zone::Transition;
+
+// The transitions so far, the least instant that the next may have, and the offset after them.
+pub(crate) struct Edge {
+    pub changes: u64,
+    pub low: u64,
+    pub offset: u64,
+}
+
+// What stands before a line: nothing, a zone, or more than that.
+pub(crate) enum Before {
+    Start,
+    Zoned(Edge),
+    Lines,
+}
+
+// What stands before the next line, or that the frame may not stand here.
+pub(crate) enum Placed {
+    Is(Before),
+    Not,
+}
+
+fn first(frame: Frame) -> Placed
+    ensures { λ r. ⌜ placedOf r ≡ placeOf start frame ⌝ }
+{
+    match frame {
+        Frame::Offset(o) => Placed::Is(Before::Zoned(Edge {
+            changes: 0,
+            low: 0,
+            offset: o,
+        })),
+        Frame::Change(_) => Placed::Not,
+        Frame::Cron(_) => Placed::Not,
+        Frame::Rule(_) => Placed::Not,
+        Frame::Extra(_) => Placed::Not,
+        Frame::Excepted(_) => Placed::Not,
+        Frame::End(_) => Placed::Not,
+    }
+}
+
+fn distance(a: u64, b: u64) -> u64
+    ensures { λ r. ⌜ r ≡ apart a b ⌝ }
+{
+    if a < b { b - a } else { a - b }
+}
+
+// One transition more.
+fn change(edge: Edge, t: Transition) -> Placed
+    requires { ⌜ t .at ≤ 52597439 ⌝ }
+    ensures { λ r. ⌜ placedOf r ≡ placeOf (zonedAt (edge .changes) (edge .low) (edge .offset)) (Frame.Change t) ⌝ }
+{
+    if 31 < edge.changes {
+        return Placed::Not;
+    }
+    if t.at < edge.low {
+        return Placed::Not;
+    }
+    let moved = distance(edge.offset, t.offset);
+    if moved == 0 {
+        return Placed::Not;
+    }
+    if 180 < moved {
+        return Placed::Not;
+    }
+    Placed::Is(Before::Zoned(Edge {
+        changes: edge.changes + 1,
+        low: t.at + 2880,
+        offset: t.offset,
+    }))
+}
+
+// After a zone.
+fn zoned(edge: Edge, frame: Frame) -> Placed
+    requires { ⌜ frameGood frame ≡ true ⌝ }
+    ensures { λ r. ⌜ placedOf r ≡ placeOf (zonedAt (edge .changes) (edge .low) (edge .offset)) frame ⌝ }
+{
+    match frame {
+        Frame::Offset(_) => Placed::Not,
+        Frame::Change(t) => change(edge, t),
+        Frame::Cron(_) => Placed::Is(Before::Lines),
+        Frame::Rule(_) => Placed::Is(Before::Lines),
+        Frame::Extra(_) => Placed::Is(Before::Lines),
+        Frame::Excepted(_) => Placed::Is(Before::Lines),
+        Frame::End(_) => Placed::Is(Before::Lines),
+    }
+}
+
+// After other lines.
+fn after(frame: Frame) -> Placed
+    ensures { λ r. ⌜ placedOf r ≡ placeOf linesAt frame ⌝ }
+{
+    match frame {
+        Frame::Offset(_) => Placed::Not,
+        Frame::Change(_) => Placed::Not,
+        Frame::Cron(_) => Placed::Is(Before::Lines),
+        Frame::Rule(_) => Placed::Is(Before::Lines),
+        Frame::Extra(_) => Placed::Is(Before::Lines),
+        Frame::Excepted(_) => Placed::Is(Before::Lines),
+        Frame::End(_) => Placed::Is(Before::Lines),
+    }
+}
+
+pub(crate) fn place(standing: Before, frame: Frame) -> Placed
+    requires { ⌜ frameGood frame ≡ true ⌝ }
+    ensures { λ r. ⌜ placedOf r ≡ placeOf (beforeOf standing) frame ⌝ }
+{
+    match standing {
+        Before::Start => first(frame),
+        Before::Zoned(edge) => zoned(edge, frame),
+        Before::Lines => after(frame),
+    }
+}

@@ -1,0 +1,6 @@
+-- The laws of next and previous.
+pub mod Nearer
+pub mod Shifts
+pub mod Parts
+pub mod Walked
+pub mod Answered

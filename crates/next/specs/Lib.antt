@@ -1,0 +1,4 @@
+-- What the next and the previous instant are.
+pub mod Instants
+pub mod Nearest
+pub mod Open

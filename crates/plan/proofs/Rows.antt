@@ -1,0 +1,71 @@
+-- A frame's row says what the frame says: the search over rows is a search over the plan.
+use mathlib.Core.Bool.{not, _&&_}
+use mathlib.Core.List.{List, [], _∷_, map}
+use mathlib.Core.Logic.{dite}
+use mathlib.Core.Path.{_≡_, refl, sym, _∙_}
+use Prim.Native.Nat.{ℕ}
+use native.Mathlib.Decide.{ℕ-discrete}
+use borrow.Author.Tests.{ne-eqb}
+use lib.Dec.{eqb}
+use Rattle.calendar.specs.Below.{anyOf}
+use Rattle.held.specs.Lists.{anyHeld, anyExcepts, listHeld, frameExcepts as rowExcepts}
+use Rattle.held.specs.Minutes.{frameHeld}
+use Rattle.frames.specs.Numbers.{cronOf, ruleOf}
+use Rattle.frames.specs.declared.Cron.{Cron}
+use Rattle.frames.specs.declared.Rule.{Rule}
+use Rattle.zone.specs.Zone.{inWindow}
+use Rattle.plan.specs.Plan.{frameHolds, frameExcepts, planHeld}
+use Rattle.plan.specs.Rows.{rowOf}
+use Rattle.plan.specs.declared.Frame.{Frame}
+
+pub cron-row-back : (f : Cron) → cronOf (rowOf (Frame.Cron f)) ≡ f
+unfolding rowOf
+cron-row-back f = refl
+
+pub rule-row-back : (f : Rule) → ruleOf (rowOf (Frame.Rule f)) ≡ f
+unfolding rowOf
+rule-row-back f = refl
+
+-- the order of a test does not matter
+same-either-way : (a b : ℕ) → eqb a b ≡ eqb b a
+same-either-way a b =
+    dite (ℕ-discrete a b) (λ (e : a ≡ b). rw e)
+    (λ (n : a ≡ b → ⊥). ne-eqb a b n ∙ sym (ne-eqb b a (λ (e : b ≡ a). n (sym e))))
+
+pub row-held : (f : Frame) (m : ℕ) → frameHeld (rowOf f) m ≡ frameHolds m f
+unfolding rowOf frameHeld frameHolds
+row-held (Frame.Offset o) m = refl
+row-held (Frame.Change t) m = refl
+row-held (Frame.Cron f) m = refl
+row-held (Frame.Rule f) m = refl
+row-held (Frame.Extra e) m = same-either-way m e
+row-held (Frame.Excepted e) m = refl
+row-held (Frame.End n) m = refl
+
+pub row-excepts : (f : Frame) (m : ℕ) → rowExcepts (rowOf f) m ≡ frameExcepts m f
+unfolding rowOf rowExcepts frameExcepts
+row-excepts (Frame.Offset o) m = refl
+row-excepts (Frame.Change t) m = refl
+row-excepts (Frame.Cron f) m = refl
+row-excepts (Frame.Rule f) m = refl
+row-excepts (Frame.Extra e) m = refl
+row-excepts (Frame.Excepted e) m = same-either-way m e
+row-excepts (Frame.End n) m = refl
+
+any-held : (fs : List Frame) (m : ℕ) → anyHeld (map rowOf fs) m ≡ anyOf (frameHolds m) fs
+any-held [] m = refl
+any-held (f ∷ fs) m = rw (row-held f m, any-held fs m)
+
+any-excepts : (fs : List Frame) (m : ℕ) → anyExcepts (map rowOf fs) m ≡ anyOf (frameExcepts m) fs
+any-excepts [] m = refl
+any-excepts (f ∷ fs) m = rw (row-excepts f m, any-excepts fs m)
+
+pub rows-held : (fs : List Frame) (m : ℕ)
+    → listHeld (map rowOf fs) m ≡ (anyOf (frameHolds m) fs && not (anyOf (frameExcepts m) fs))
+unfolding listHeld
+rows-held fs m = rw (any-held fs m, any-excepts fs m)
+
+-- a plan's meaning by its rows
+pub plan-held-by-rows : (fs : List Frame) (m : ℕ) → planHeld fs m ≡ (inWindow m && listHeld (map rowOf fs) m)
+unfolding planHeld
+plan-held-by-rows fs m = rw (rows-held fs m)

@@ -1,0 +1,13 @@
+-- The definition's two tests.
+use borrow.Author.Tests.{eq-eqb, ne-eqb}
+use Rattle.plan.proofs.text.is.Statement.{statement}
+use Rattle.plan.proofs.text.is.Tie as tie
+
+returns : tie.Need-returns
+returns c = rw (eq-eqb _ _ (c .if1 .taken))
+
+returns-2 : tie.Need-returns-2
+returns-2 c = rw (ne-eqb _ _ (c .if1 .left))
+
+pub is-spec : {M : Type 1} → statement M
+is-spec = tie.close (tie.spec returns returns-2)

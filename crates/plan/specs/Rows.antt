@@ -1,0 +1,31 @@
+-- A frame as the search holds it: sixteen numbers, the first its kind, then its fields in order, then zeros.
+use mathlib.Core.List.{List, [], _∷_, _++_}
+use Prim.Native.Nat.{ℕ}
+use lib.ListN.{take, replicate}
+use Rattle.plan.specs.declared.Frame.{Frame}
+
+abbrev pub sixteen : List ℕ → List ℕ
+sixteen l = take 16 (l ++ replicate 16 0)
+
+unfoldable pub rowOf : Frame → List ℕ
+rowOf (Frame.Offset o) = sixteen (1 ∷ o ∷ [])
+rowOf (Frame.Change t) = sixteen (2 ∷ t .at ∷ t .offset ∷ [])
+rowOf (Frame.Cron f) = sixteen (3 ∷ f .minutes ∷ f .hours ∷ f .days ∷ f .months ∷ f .weekdays ∷ f .flags ∷ [])
+rowOf (Frame.Rule f) =
+    sixteen
+    (4
+    ∷ f .frequency
+    ∷ f .interval
+    ∷ f .start
+    ∷ f .last
+    ∷ f .weekdays
+    ∷ f .days .front
+    ∷ f .days .back
+    ∷ f .ordinals .front
+    ∷ f .ordinals .back
+    ∷ f .positions .front
+    ∷ f .positions .back
+    ∷ [])
+rowOf (Frame.Extra m) = sixteen (5 ∷ m ∷ [])
+rowOf (Frame.Excepted m) = sixteen (6 ∷ m ∷ [])
+rowOf (Frame.End n) = sixteen (255 ∷ n ∷ [])
