@@ -1,6 +1,7 @@
 //! The protocol: a request line and the answer line that document 01 wants for it.
 //! Decimal numbers, single spaces; "A refusal answers its number [..] and zeros for every other number".
 
+use crate::answer_plans;
 use crate::dates;
 use crate::local::{is_local_minute, LAST_MINUTE, MINUTES_OF_A_DAY};
 use crate::plan::{self, frame::Frame, Plan};
@@ -11,8 +12,8 @@ const OUT_OF_RANGE: &str = "5";
 
 /// The answer line, without LF; none if the line is no request.
 pub fn answer(request: &str) -> Option<String> {
-    if let Some(minutes) = frames_answer(request) {
-        return Some(minutes);
+    if let Some(line) = answer_plans::answer(request).or_else(|| frames_answer(request)) {
+        return Some(line);
     }
     let mut words = request.split(' ');
     let name = words.next()?;

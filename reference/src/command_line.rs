@@ -6,7 +6,7 @@ usage: reference compare SUITE [--seed S] [--times N] -- DRIVER WORDS...
        reference dump meanings [--seed S] [--sheets N] [--plans N]
        reference answer
 
-  compare  sends the requests of SUITE (dates, zones or frames) to the driver and compares its answers
+  compare  sends the requests of SUITE (dates, zones, frames or plans) to the driver and compares its answers
   dump     prints WHAT (dates, rules, cron or zones) for the programs in peers/, or sheets and plans with
            their answers for tools/try-meanings
   answer   is a driver itself: request lines on standard input, answer lines on standard output";

@@ -6,13 +6,14 @@ use crate::driver::{ask, Answers};
 /// Requests for one start of the driver.
 const BATCH: usize = 100_000;
 
-/// Differences that are shown; the others are only counted.
+/// Lines with differences that are shown; the others are only counted.
 const SHOWN: u64 = 20;
 
 #[derive(Default)]
 pub struct Tally {
     pub compared: u64,
     pub differ: u64,
+    shown: u64,
 }
 
 impl Tally {
@@ -23,8 +24,31 @@ impl Tally {
 
     fn difference(&mut self, request: &str, wanted: &str, got: &str) {
         self.differ += 1;
-        if self.differ <= SHOWN {
+        self.show(request, wanted, got);
+    }
+
+    fn show(&mut self, request: &str, wanted: &str, got: &str) {
+        if self.shown < SHOWN {
             println!("differs: {request}\n  wanted: {wanted}\n  got:    {got}");
+        }
+        self.shown += 1;
+    }
+
+    /// A line may have several answers, with commas between. The first that differs is shown with its place.
+    fn line(&mut self, request: &str, wanted: &str, got: &str) {
+        let wanted: Vec<&str> = wanted.split(',').collect();
+        let got: Vec<&str> = got.split(',').collect();
+        let answers = 0..wanted.len().max(got.len());
+        let differing: Vec<usize> = answers.filter(|&k| wanted.get(k) != got.get(k)).collect();
+        self.compared += wanted.len() as u64;
+        self.differ += differing.len() as u64;
+        if let Some(&first) = differing.first() {
+            let request = match wanted.len() {
+                1 => request.to_string(),
+                answers => format!("{request} (answer {} of {answers})", first + 1),
+            };
+            let at = |all: &[&str]| all.get(first).copied().unwrap_or("(no answer)").to_string();
+            self.show(&request, &at(&wanted), &at(&got));
         }
     }
 }
@@ -52,10 +76,7 @@ fn compare_batch(tally: &mut Tally, batch: &[String], answers: &Answers) {
     for request in batch {
         let wanted = answer(request).unwrap_or_else(|| "(no request of the protocol)".to_string());
         let got = lines.next().map_or("(no answer)", String::as_str);
-        tally.compared += 1;
-        if got != wanted {
-            tally.difference(request, &wanted, got);
-        }
+        tally.line(request, &wanted, got);
     }
     for line in lines {
         tally.difference("(after the last request)", "(no answer)", line);

@@ -12,3 +12,11 @@ pub fn bytes_of(digits: &str) -> Vec<u8> {
         .filter_map(|pair| u8::from_str_radix(pair, 16).ok())
         .collect()
 }
+
+/// Bytes as one word of a line: their digits, `-` for none.
+pub fn word_of(bytes: &[u8]) -> String {
+    match bytes {
+        [] => "-".to_string(),
+        bytes => digits_of(bytes),
+    }
+}

@@ -2,8 +2,10 @@
 //! sharing nothing with the code under test.
 
 pub mod answer;
+pub mod answer_plans;
 pub mod cases_dates;
 pub mod cases_frames;
+pub mod cases_plans;
 pub mod cases_zones;
 pub mod command_line;
 pub mod compare;

@@ -2,7 +2,9 @@ use std::io::{self, BufRead, BufWriter, Write};
 use std::process::ExitCode;
 
 use reference::command_line::{read, Command, Options, USAGE};
-use reference::{answer, cases_dates, cases_frames, cases_zones, compare, dump, meanings};
+use reference::{
+    answer, cases_dates, cases_frames, cases_plans, cases_zones, compare, dump, meanings,
+};
 
 fn main() -> ExitCode {
     let words: Vec<String> = std::env::args().skip(1).collect();
@@ -33,6 +35,7 @@ fn compare_suite(suite: &str, options: &Options, driver: &[String]) -> io::Resul
     let requests = match suite {
         "dates" => cases_dates::requests(options.seed, options.times),
         "frames" => cases_frames::requests(options.seed, options.times),
+        "plans" => cases_plans::requests(options.seed, options.times),
         "zones" => cases_zones::requests(options.seed, options.times),
         _ => return Err(unknown(suite)),
     };

@@ -1,7 +1,8 @@
 //! The comparison itself: the reference as a driver agrees, and each kind of wrong driver is caught.
 
-use reference::cases_dates;
 use reference::compare::{compare, Tally};
+use reference::hex::word_of;
+use reference::{cases_dates, cases_plans};
 
 const BINARY: &str = env!("CARGO_BIN_EXE_reference");
 const ASKED: u64 = 1000;
@@ -62,4 +63,26 @@ fn a_driver_that_cannot_start_is_caught() {
 fn nothing_compared_is_not_good() {
     let words = ["true".to_string()];
     assert!(!compare(&words, std::iter::empty()).is_good());
+}
+
+/// The outcome for fifty damaged plans, a load check each, and five answers in turn of a plan of one zone and two
+/// extra minutes, of which two are instants.
+fn tally_of_plans(shell_line: &str) -> Tally {
+    let line = shell_line.replace("REFERENCE", &format!("'{BINARY}' answer"));
+    let words = ["sh", "-c", line.as_str()].map(str::to_string);
+    let plan = word_of(b"010000\n0500000007\n0500000009\nFF03\n");
+    let requests = cases_plans::requests(1, 0).take(50);
+    compare(&words, requests.chain([format!("next {plan} 0 5")]))
+}
+
+#[test]
+fn every_answer_of_a_line_is_compared() {
+    let good = tally_of_plans("REFERENCE");
+    assert!(good.is_good());
+    assert_eq!(good.compared, 50 + 3); // 7, 9, and then none
+    assert_eq!(tally_of_plans("REFERENCE | sed '51s/,/0,/'").differ, 1);
+    assert_eq!(tally_of_plans("REFERENCE | sed '51s/$/0/'").differ, 1);
+    assert_eq!(tally_of_plans("REFERENCE | sed '51s/$/,0 0 0/'").differ, 1);
+    assert_eq!(tally_of_plans("REFERENCE | sed '51s/,.*//'").differ, 2);
+    assert_eq!(tally_of_plans("REFERENCE | sed '7s/10 /10 9/'").differ, 1);
 }

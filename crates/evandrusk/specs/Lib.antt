@@ -1,3 +1,4 @@
 -- What C is answered, of the signed numbers that it hands in.
 pub mod Answers
+pub mod Plans
 pub mod Open

@@ -1,9 +1,14 @@
 // What C is answered: 0, or the refusal with zeros.
 ghost use mathlib.Core.Path.{_≡_};
+ghost use Rattle.signed.specs.Bias.{unbiasInstant};
 ghost use Rattle.evandrusk.specs.Answers.{dayAnswer, dateAnswer, isoAnswer};
+ghost use Rattle.evandrusk.specs.Plans.{checkedAs, answerAs, localAs, foundAt, refusedAs, minuteOf};
 use calendar::date::Dated;
 use calendar::date::Day;
 use calendar::iso::IsoDated;
+use load::Loaded;
+use next::Answer;
+use next::Local;
 
 #[repr(C)]
 pub struct EvkDay {
@@ -25,6 +30,19 @@ pub struct EvkIso {
     pub year: i64,
     pub week: i64,
     pub weekday: i64,
+}
+
+#[repr(C)]
+pub struct EvkChecked {
+    pub number: u64,
+    pub line: u64,
+}
+
+#[repr(C)]
+pub struct EvkFound {
+    pub number: u64,
+    pub line: u64,
+    pub instant: i64,
 }
 
 pub(crate) fn day(found: Day) -> EvkDay
@@ -75,4 +93,67 @@ pub(crate) fn iso(found: IsoDated) -> EvkIso
         week: signed::whole(d.week),
         weekday: signed::whole(d.weekday),
     }
+}
+
+pub(crate) fn checked(loaded: Loaded) -> EvkChecked
+    ensures { λ r. ⌜ r ≡ checkedAs loaded ⌝ }
+{
+    let Loaded::Refused(line) = loaded else {
+        return EvkChecked { number: 0, line: 0 };
+    };
+    EvkChecked {
+        number: 10,
+        line: line as u64,
+    }
+}
+
+// A refusal has no instant.
+fn refused(number: u64, line: usize) -> EvkFound
+    ensures { λ r. ⌜ r ≡ refusedAs number line ⌝ }
+{
+    EvkFound {
+        number,
+        line: line as u64,
+        instant: 0,
+    }
+}
+
+fn at(i: u64) -> EvkFound
+    ensures { λ r. ⌜ r ≡ foundAt (unbiasInstant i) ⌝ }
+{
+    EvkFound {
+        number: 0,
+        line: 0,
+        instant: signed::unbias_instant(i),
+    }
+}
+
+pub(crate) fn found(answer: Answer) -> EvkFound
+    ensures { λ r. ⌜ r ≡ answerAs answer ⌝ }
+{
+    match answer {
+        Answer::Is(i) => at(i),
+        Answer::Never => refused(11, 0),
+        Answer::Refused(line) => refused(10, line),
+    }
+}
+
+pub(crate) fn local(answer: Local) -> EvkFound
+    ensures { λ r. ⌜ r ≡ localAs answer ⌝ }
+{
+    match answer {
+        Local::Is(i) => at(i),
+        Local::Outside => refused(5, 0),
+        Local::Refused(line) => refused(10, line),
+    }
+}
+
+// A local minute that is negative is outside the window, as the first past it is.
+pub(crate) fn minute_of(m: i64) -> u64
+    ensures { λ r. ⌜ r ≡ minuteOf m ⌝ }
+{
+    if m < 0 {
+        return 52596000;
+    }
+    signed::natural(m)
 }

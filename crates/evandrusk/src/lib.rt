@@ -1,8 +1,11 @@
-// The functions that C calls, and nothing else: numbers in, one call, a struct out. include/evandrusk.h declares them.
+// The functions that C calls, and nothing else: numbers and a lent plan in, one call, a struct out. include/evandrusk.h declares them.
 ghost use mathlib.Core.Path.{_≡_};
 ghost use Rattle.evandrusk.specs.Answers.{dayOfDateAnswer, dateOfDayAnswer, isoOfDayAnswer, dayOfIsoAnswer};
+ghost use Rattle.evandrusk.specs.Plans.{checkAnswer, NextAnswer, PreviousAnswer, localAnswer};
+use answers::EvkChecked;
 use answers::EvkDate;
 use answers::EvkDay;
+use answers::EvkFound;
 use answers::EvkIso;
 use calendar::date;
 use calendar::iso;
@@ -45,4 +48,34 @@ pub extern "C" fn evk_day_of_iso(year: i64, week: i64, weekday: i64) -> EvkDay
         signed::natural(weekday),
     );
     answers::day(found)
+}
+
+#[no_mangle]
+pub extern "C" fn evk_check(plan: &[u8]) -> EvkChecked
+    ensures { λ r. ⌜ r ≡ checkAnswer (now (plan .entry)) ⌝ }
+{
+    let row = [0u64; 16];
+    let mut rows = [row; 64];
+    answers::checked(load::load(plan, &mut rows))
+}
+
+#[no_mangle]
+pub extern "C" fn evk_next(plan: &[u8], instant: i64) -> EvkFound
+    ensures { λ r. ⌜ NextAnswer (now (plan .entry)) instant r ⌝ }
+{
+    answers::found(next::next(plan, signed::bias_instant(instant)))
+}
+
+#[no_mangle]
+pub extern "C" fn evk_previous(plan: &[u8], instant: i64) -> EvkFound
+    ensures { λ r. ⌜ PreviousAnswer (now (plan .entry)) instant r ⌝ }
+{
+    answers::found(next::previous(plan, signed::bias_instant(instant)))
+}
+
+#[no_mangle]
+pub extern "C" fn evk_instant_of_local(plan: &[u8], local_minute: i64) -> EvkFound
+    ensures { λ r. ⌜ r ≡ localAnswer (now (plan .entry)) «local_minute» ⌝ }
+{
+    answers::local(next::instant_of_local(plan, answers::minute_of(local_minute)))
 }

@@ -1,17 +1,13 @@
 -- A frame made ready for a walk: its own numbers stay, so it holds the same days.
-use mathlib.Core.Bool.{Bool, false, cond}
 use mathlib.Core.List.{List}
 use mathlib.Core.Path.{_≡_, sym, ap, _∙_}
 use Prim.Native.Nat.{ℕ, _+_, _-_, _/_, _<_, _≤_}
 use native.Mathlib.Omega.{arith}
-use lib.Dec.{eqb}
 use lib.ListN.{length, getD, set, length-set}
 use lib.Seq.{getD-set-same, getD-set-other}
 use Rattle.calendar.proofs.Leasts.{Least, Last, least-same, last-same}
 use Rattle.calendar.specs.Window.{localDate}
-use Rattle.frames.specs.Cron.{cronDay}
-use Rattle.frames.specs.Numbers.{cronOf, ruleOf, dayHeld, startMonth}
-use Rattle.frames.specs.Rule.{ruleDay}
+use Rattle.frames.specs.Numbers.{dayHeld, startMonth}
 use Rattle.frames.specs.Steps.{Holds, Ready, readied}
 use Rattle.frames.proofs.Answers.{holds-at}
 

@@ -1,7 +1,7 @@
 -- What a rule says of a whole month, as a set of its days.
 use mathlib.Core.Bool.{Bool, true, false, _&&_, _||_, and-false, or-false}
 use mathlib.Core.Path.{_≡_, sym, ap, _∙_}
-use Prim.Native.Nat.{ℕ, _+_, _-_, _/_, _%_, _^_, _≤_}
+use Prim.Native.Nat.{ℕ, _+_, _-_, _/_, _^_, _≤_}
 use native.Mathlib.Nat.{zero-div}
 use native.Mathlib.Omega.{arith}
 use borrow.Author.Tests.{eqb-true}

@@ -1,9 +1,7 @@
 -- The weekdays of a month as a mask: a week's mask turned to the first day, and repeated.
-use mathlib.Core.Bool.{Bool, _&&_}
-use mathlib.Core.Logic.{dite}
+use mathlib.Core.Bool.{Bool}
 use mathlib.Core.Path.{_≡_, sym, ap, _∙_}
 use Prim.Native.Nat.{ℕ, _+_, _-_, _*_, _/_, _%_, _^_, _<_, _≤_}
-use native.Mathlib.Decide.{decLt}
 use native.Mathlib.Omega.{arith}
 use lib.Dec.{T, eqb, eqb→eq}
 use Rattle.calendar.proofs.Every.{every}

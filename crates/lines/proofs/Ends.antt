@@ -1,7 +1,7 @@
 -- Where a line ends, and the lines of what stands from a place on.
-use mathlib.Core.Bool.{Bool, true, false}
+use mathlib.Core.Bool.{false}
 use mathlib.Core.List.{List, [], _∷_}
-use mathlib.Core.Path.{_≡_, refl, sym, ap, _∙_}
+use mathlib.Core.Path.{_≡_, refl, ap, _∙_}
 use Prim.Native.Nat.{ℕ, zero, suc, _+_, _-_, _<_, _≤_}
 use native.Mathlib.Omega.{arith}
 use borrow.Author.Tests.{eq-eqb, ne-eqb, eqb-true}
@@ -10,7 +10,7 @@ use lib.ListN.{length, getD, take, drop, length-drop}
 use lib.Seq.{getD-drop, drop-drop}
 use Rattle.calendar.proofs.Leasts.{Least, least-from}
 use Rattle.calendar.specs.Below.{leastFrom}
-use Rattle.lines.specs.Lines.{Lines, before, linesOf, lineEnd}
+use Rattle.lines.specs.Lines.{linesOf, lineEnd}
 
 pub end-here : (text : List ℕ) (i : ℕ) → i < length text → getD text i 0 ≡ 10 → lineEnd text i ≡ i
 unfolding lineEnd leastFrom

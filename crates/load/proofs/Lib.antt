@@ -2,4 +2,5 @@
 pub mod Goods
 pub mod Places
 pub mod Rounds
+pub mod ZoneRows
 pub mod Zones

@@ -6,14 +6,14 @@ use mathlib.Core.Path.{_≡_, refl, sym, ap, subst, _∙_}
 use Prim.Native.Nat.{ℕ, suc, _+_, _<_, _≤_}
 use native.Mathlib.Omega.{arith}
 use borrow.Author.Tests.{lt-ltb, le-ltb, le-leb, lt-leb, leb-true}
-use lib.Dec.{leb, ltb}
+use lib.Dec.{leb}
 use Rattle.calendar.specs.Below.{within}
 use Rattle.plan.specs.Read.{lineOf, lineRead}
-use Rattle.plan.specs.Taken.{Before, zoned, frameGood, place, numberGood, isEnd, allowed}
+use Rattle.plan.specs.Taken.{Before, zoned, frameGood, place, numberGood, allowed}
 use Rattle.plan.specs.Text.{lineFrame}
 use Rattle.plan.specs.declared.Frame.{Frame}
 use Rattle.plan.specs.declared.text.Line.{Line}
-use Rattle.zone.specs.Zone.{apart, offsetInRange, underLimits}
+use Rattle.zone.specs.Zone.{apart, underLimits}
 use Rattle.zone.specs.declared.Transition.{Transition}
 
 -- a transition after a zone of k, the last but `low` and the offset after it

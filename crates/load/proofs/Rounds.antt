@@ -1,15 +1,15 @@
 -- The loop over a plan's lines: what is left to do makes what was to do at first.
-use mathlib.Core.Bool.{Bool, true, false, cond, _&&_, and-false}
+use mathlib.Core.Bool.{Bool, true, false, cond, _&&_}
 use mathlib.Core.List.{List, [], _∷_, map}
 use mathlib.Core.Option.{Option, none, some}
 use mathlib.Core.Path.{_≡_, refl, sym, ap, _∙_}
 use Prim.Native.Nat.{ℕ, zero, suc, _+_, _-_, _<_, _≤_}
 use native.Mathlib.Omega.{arith}
-use borrow.Author.Tests.{eq-eqb, ne-eqb}
+use borrow.Author.Tests.{ne-eqb}
 use lib.Dec.{eqb}
-use lib.ListN.{length, take, drop, set, length-drop, drop-of-length-le}
+use lib.ListN.{length, take, drop, set, length-drop}
 use lib.Seq.{sets}
-use Rattle.lines.proofs.Ends.{lines-at, lines-none, end-least}
+use Rattle.lines.proofs.Ends.{lines-at, lines-none}
 use Rattle.lines.specs.Lines.{Lines, before, linesOf, lineEnd}
 use Rattle.plan.proofs.Loading.{onRest, onEnd, onAllowed, line-allowed, among}
 use Rattle.plan.specs.Rows.{rowOf}

@@ -4,3 +4,5 @@ pub mod Shifts
 pub mod Parts
 pub mod Walked
 pub mod Answered
+pub mod Planned
+pub mod Ready

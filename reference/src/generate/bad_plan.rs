@@ -5,6 +5,7 @@ use super::short_sheet;
 use crate::entries::compile;
 use crate::hex::{bytes_of, digits_of};
 use crate::random::Random;
+use crate::zone::OFFSETS;
 
 /// The first local minute past the window, and the least number of four bytes.
 const PAST: i64 = 52_596_000;
@@ -73,19 +74,71 @@ pub fn bad_plan(sort: u64, random: &mut Random) -> Vec<u8> {
     match sort {
         0 => text_of(&some_frames(random)),
         1 => with_moved_rule(random),
-        2 => with_bits_changed(random),
-        3 => with_another_length(random),
-        4 => with_frames_moved(random),
+        2 => with_bits_changed(some_frames(random), random),
+        3 => with_another_length(some_frames(random), random),
+        4 => with_frames_moved(some_frames(random), random),
         5 => with_many_frames(random),
         6 => at_the_zone_limits(random),
-        _ => with_text_changed(random),
+        _ => with_text_changed(&some_frames(random), random),
     }
+}
+
+/// A plan with one thing changed: a field that is set to an edge, bits, a length, the order, or the text.
+pub fn damaged(plan: &str, random: &mut Random) -> Vec<u8> {
+    let frames = frames_of(plan);
+    match random.between(0, 5) {
+        0 | 1 => with_an_edge(frames, random),
+        2 => with_bits_changed(frames, random),
+        3 => with_another_length(frames, random),
+        4 => with_frames_moved(frames, random),
+        _ => with_text_changed(&frames, random),
+    }
+}
+
+/// A plan with each field of each frame at each of its edges, and with each bit of each frame changed.
+pub fn damaged_everywhere(plan: &str) -> Vec<Vec<u8>> {
+    let frames = frames_of(plan);
+    let mut plans = Vec::new();
+    for (place, frame) in frames.iter().enumerate() {
+        let mut add = |changed: Vec<u8>| {
+            let mut frames = frames.clone();
+            frames[place] = changed;
+            plans.push(text_of(&frames));
+        };
+        for (_, at, length, numbers) in EDGES.iter().filter(|edges| edges.0 == frame[0]) {
+            for &number in *numbers {
+                let mut changed = frame.clone();
+                set(&mut changed, *at, *length, number);
+                add(changed);
+            }
+        }
+        for bit in 0..8 * frame.len() {
+            let mut changed = frame.clone();
+            changed[bit / 8] ^= 0x80 >> (bit % 8);
+            add(changed);
+        }
+    }
+    plans
+}
+
+/// A field of any frame at one of its edges.
+fn with_an_edge(mut frames: Vec<Vec<u8>>, random: &mut Random) -> Vec<u8> {
+    let chosen = any_place(&frames, random);
+    let frame = &mut frames[chosen];
+    let edges: Vec<&Edges> = EDGES.iter().filter(|edges| edges.0 == frame[0]).collect();
+    let &(_, at, length, numbers) = edges[any_place(&edges, random)];
+    set(frame, at, length, numbers[any_place(numbers, random)]);
+    text_of(&frames)
 }
 
 /// The frames of a compiled plan, the end frame among them.
 fn some_frames(random: &mut Random) -> Vec<Vec<u8>> {
     let (_, text) = compile(short_sheet(random).as_bytes(), usize::MAX);
-    text.lines().map(bytes_of).collect()
+    frames_of(&text)
+}
+
+fn frames_of(plan: &str) -> Vec<Vec<u8>> {
+    plan.lines().map(bytes_of).collect()
 }
 
 /// Frames of which one is of the kind, and its place.
@@ -140,8 +193,7 @@ fn with_moved_rule(random: &mut Random) -> Vec<u8> {
     text_of(&frames)
 }
 
-fn with_bits_changed(random: &mut Random) -> Vec<u8> {
-    let mut frames = some_frames(random);
+fn with_bits_changed(mut frames: Vec<Vec<u8>>, random: &mut Random) -> Vec<u8> {
     for _ in 0..random.between(1, 2) {
         let chosen = any_place(&frames, random);
         let byte = any_place(&frames[chosen], random);
@@ -151,8 +203,7 @@ fn with_bits_changed(random: &mut Random) -> Vec<u8> {
 }
 
 /// "the frames are of these kinds and lengths".
-fn with_another_length(random: &mut Random) -> Vec<u8> {
-    let mut frames = some_frames(random);
+fn with_another_length(mut frames: Vec<Vec<u8>>, random: &mut Random) -> Vec<u8> {
     let chosen = any_place(&frames, random);
     let frame = &mut frames[chosen];
     match random.between(0, 4) {
@@ -166,8 +217,7 @@ fn with_another_length(random: &mut Random) -> Vec<u8> {
 }
 
 /// "01 first, then up to 32 of 02 [..], then others", "nothing after it".
-fn with_frames_moved(random: &mut Random) -> Vec<u8> {
-    let mut frames = some_frames(random);
+fn with_frames_moved(mut frames: Vec<Vec<u8>>, random: &mut Random) -> Vec<u8> {
     let (from, to) = (any_place(&frames, random), any_place(&frames, random));
     match random.between(0, 4) {
         0 => frames.swap(from, to),
@@ -210,23 +260,46 @@ fn transition(instant: i64, offset: i64) -> Vec<u8> {
     frame
 }
 
+/// Changes and distances at both sides of the zone limits.
+const CHANGES: [i64; 7] = [0, 1, -1, 180, -180, 181, -181];
+const DISTANCES: [i64; 5] = [2_879, 2_880, 2_881, 0, -1];
+
 /// Two transitions, at about the least distance and with about the greatest change.
 fn at_the_zone_limits(random: &mut Random) -> Vec<u8> {
-    let changes = [0, 1, -1, 180, -180, 181, -181];
-    let distances = [2_879, 2_880, 2_881, 0, -1];
     let instant = random.between(0, PAST - 3_000);
-    let later = instant + distances[any_place(&distances, random)];
-    let first = changes[any_place(&changes, random)];
-    let second = first + changes[any_place(&changes, random)];
-    let zone = vec![0x01, 0x00, 0x00];
-    let mut frames = vec![zone, transition(instant, first), transition(later, second)];
+    let distance = DISTANCES[any_place(&DISTANCES, random)];
+    let first = CHANGES[any_place(&CHANGES, random)];
+    let second = CHANGES[any_place(&CHANGES, random)];
+    two_transitions(0, instant, distance, [first, second])
+}
+
+/// Every pair of changes at every distance, from the middle and from both ends of the offsets.
+pub fn plans_at_the_zone_limits() -> Vec<Vec<u8>> {
+    let mut plans = Vec::new();
+    for offset in [0, *OFFSETS.start(), *OFFSETS.end()] {
+        for distance in DISTANCES {
+            for first in CHANGES {
+                let both = CHANGES.map(|second| [first, second]);
+                plans.extend(both.map(|changes| two_transitions(offset, 9_999, distance, changes)));
+            }
+        }
+    }
+    plans
+}
+
+fn two_transitions(offset: i64, instant: i64, distance: i64, changes: [i64; 2]) -> Vec<u8> {
+    let mut zone = vec![0x01; 3];
+    set(&mut zone, 1, 2, offset);
+    let first = transition(instant, offset + changes[0]);
+    let second = transition(instant + distance, offset + changes[0] + changes[1]);
+    let mut frames = vec![zone, first, second];
     set_right_number(&mut frames);
     text_of(&frames)
 }
 
 /// "One frame a line: upper-case hex digits, LF."
-fn with_text_changed(random: &mut Random) -> Vec<u8> {
-    let mut text = text_of(&some_frames(random));
+fn with_text_changed(frames: &[Vec<u8>], random: &mut Random) -> Vec<u8> {
+    let mut text = text_of(frames);
     let place = any_place(&text, random);
     let others = b"afgG:@/` -\r\n\x000Ff\xC3x";
     let other = others[any_place(others, random)];

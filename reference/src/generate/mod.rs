@@ -5,13 +5,17 @@ mod bad_lines;
 mod bad_plan;
 mod bad_sheet;
 mod cron;
+mod edge_sheets;
 mod rule;
 mod zones;
 
 pub use bad_lines::edge_lines;
-pub use bad_plan::{bad_plan, plans_at_the_edges};
+pub use bad_plan::{
+    bad_plan, damaged, damaged_everywhere, plans_at_the_edges, plans_at_the_zone_limits,
+};
 pub use bad_sheet::{bad_sheet, refused_sheet};
 pub use cron::cron_line;
+pub use edge_sheets::{empty_sheet, ends_sheet, full_sheet, midnight_sheet};
 pub use rule::rule_line;
 pub use zones::zone_lines;
 
@@ -30,6 +34,11 @@ pub fn sheet(random: &mut Random) -> String {
             _ => rule_line(random),
         });
     }
+    with_times(lines, random)
+}
+
+/// The lines with some extra and some excepted times.
+fn with_times(mut lines: Vec<String>, random: &mut Random) -> String {
     let Ok(taken) = read(text_of(&lines).as_bytes()) else {
         return text_of(&lines); // a sheet that is not taken is for the caller to see
     };

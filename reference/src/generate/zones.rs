@@ -35,7 +35,7 @@ fn random_offset(random: &mut Random) -> i64 {
 }
 
 /// Another offset in range, by 1 to 180 minutes, often by an hour or by the most.
-fn changed(offset: i64, random: &mut Random) -> i64 {
+pub fn changed(offset: i64, random: &mut Random) -> i64 {
     let change = match random.between(0, 3) {
         0 => 180,
         1 => random.between(1, 180),

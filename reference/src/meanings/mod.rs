@@ -14,7 +14,7 @@ use crate::generate::{
     bad_plan, bad_sheet, crowded_sheet, edge_lines, plans_at_the_edges, refused_sheet, sheet,
     short_sheet,
 };
-use crate::hex::digits_of;
+use crate::hex::word_of;
 use crate::meaning::{of_sheet, Meaning};
 use crate::plan::{self, of_plan};
 use crate::random::Random;
@@ -75,7 +75,7 @@ fn some_sheet(sort: u64, random: &mut Random) -> Vec<u8> {
 }
 
 fn sheet_case(text: &[u8], random: &mut Random, out: &mut impl Write) -> io::Result<()> {
-    writeln!(out, "sheet {}", hex(text))?;
+    writeln!(out, "sheet {}", word_of(text))?;
     let (_, plan_text) = compile(text, AMPLE);
     let rooms = match plan_text.len() {
         0 => vec![AMPLE, 0],
@@ -90,7 +90,7 @@ fn sheet_case(text: &[u8], random: &mut Random, out: &mut impl Write) -> io::Res
             answer.line,
             answer.bad_at,
             answer.bad_length,
-            hex(plan_text.as_bytes())
+            word_of(plan_text.as_bytes())
         )?;
     }
     match (read(text), plan::read(plan_text.as_bytes())) {
@@ -120,7 +120,7 @@ fn plan_case(text: &[u8], random: &mut Random, out: &mut impl Write) -> io::Resu
 
 fn plan_lines(text: &[u8], asked: &[i64], out: &mut impl Write) -> io::Result<()> {
     let answer = Loaded::new(text).check();
-    writeln!(out, "plan {}", hex(text))?;
+    writeln!(out, "plan {}", word_of(text))?;
     writeln!(out, "load {} {}", answer.number, answer.line)?;
     match plan::read(text) {
         Ok(taken) => minutes(&of_plan(&taken), asked, out),
@@ -144,11 +144,4 @@ fn times_shown(zone: &Zone, minute: i64) -> usize {
     instants
         .filter(|&instant| instant + zone.offset_at(instant) == minute)
         .count()
-}
-
-fn hex(bytes: &[u8]) -> String {
-    match bytes {
-        [] => "-".to_string(),
-        bytes => digits_of(bytes),
-    }
 }

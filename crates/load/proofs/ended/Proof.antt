@@ -1,9 +1,8 @@
 -- The rest is none, or some.
-use mathlib.Core.Path.{_≡_, sym, ap}
+use mathlib.Core.Path.{_≡_}
 use Prim.Native.Nat.{suc, _-_}
 use native.Mathlib.Omega.{arith}
 use borrow.Author.Needs.{needs}
-use Rattle.load.specs.Loads.{endedAs}
 use Rattle.load.proofs.ended.Statement.{statement}
 use Rattle.load.proofs.ended.Tie as tie
 

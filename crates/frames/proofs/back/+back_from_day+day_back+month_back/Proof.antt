@@ -11,7 +11,7 @@ use Rattle.calendar.proofs.Leasts.{last-here}
 use Rattle.calendar.proofs.Windows.{month-days-range}
 use Rattle.calendar.specs.Window.{monthFirst, monthDays}
 use Rattle.frames.specs.Numbers.{dayHeld}
-use Rattle.frames.specs.Steps.{dayPart, dayOf, SetOf, Down}
+use Rattle.frames.specs.Steps.{dayPart, SetOf, Down}
 use Rattle.frames.proofs.Answers.{holds-at}
 use Rattle.frames.proofs.Walks.{down-end, down-month, down-on, down-at, small, day-back, last-day, month-end-top, passed-back, all-passed-back, month-passed-back, last-month-passed-back}
 use Prim.Native.Nat.{ℕ, _<_}

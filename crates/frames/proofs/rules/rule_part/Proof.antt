@@ -3,7 +3,6 @@ use Prim.Native.Nat.{_/_}
 use native.Mathlib.Omega.{arith}
 use borrow.Author.Needs.{needs}
 use borrow.Author.Tests.{le-leb, lt-leb, not-true, not-false}
-use mathlib.Core.Path.{sym, _∙_}
 use Rattle.frames.specs.Steps.{rulePart}
 use Rattle.frames.proofs.rules.rule_part.Statement.{statement}
 use Rattle.frames.proofs.rules.rule_part.Tie as tie

@@ -1,5 +1,5 @@
 -- A day that is not held is passed, and so is a month with an empty set; the days left to the walk's last day fall.
-use mathlib.Core.Path.{_≡_, sym, _∙_}
+use mathlib.Core.Path.{sym, _∙_}
 use Prim.Native.Nat.{ℕ, _+_, _-_, _*_, _<_, _≤_}
 use native.Mathlib.Omega.{arith}
 use borrow.Author.Needs.{needs}
@@ -11,7 +11,7 @@ use Rattle.calendar.proofs.Leasts.{least-here}
 use Rattle.calendar.proofs.Windows.{month-first-next, month-days-range}
 use Rattle.calendar.specs.Window.{monthFirst, monthDays}
 use Rattle.frames.specs.Numbers.{dayHeld}
-use Rattle.frames.specs.Steps.{dayPart, dayOf, SetOf, Up}
+use Rattle.frames.specs.Steps.{dayPart, SetOf, Up}
 use Rattle.frames.proofs.Answers.{holds-at}
 use Rattle.frames.proofs.Walks.{up-month, up-on, up-at, last-day-top, small, day-on, first-day, passed-on, all-passed, month-passed, last-month-passed}
 use Prim.Native.Nat.{ℕ, _<_}

@@ -1,12 +1,12 @@
 -- Where the last day of the range has no time before its end, the search goes on from the day before.
-use mathlib.Core.Path.{_≡_, sym, ap, _∙_}
-use Prim.Native.Nat.{ℕ, _+_, _-_, _*_, _/_, _%_, _<_}
+use mathlib.Core.Path.{_≡_}
+use Prim.Native.Nat.{_-_, _*_, _/_}
 use native.Mathlib.Omega.{arith}
 use borrow.Author.Needs.{needs}
 use denote.Ref.{now}
 use Rattle.held.specs.Minutes.{timePart}
 use Rattle.frames.specs.Numbers.{dayHeld}
-use Rattle.calendar.proofs.Leasts.{Last, last-none, last-before}
+use Rattle.calendar.proofs.Leasts.{last-none, last-before}
 use Rattle.held.specs.Minutes.{minutePart}
 use Rattle.held.proofs.Pairs.{times-last-none, time-before}
 use Rattle.held.proofs.minutes.last_part.Statement.{statement}

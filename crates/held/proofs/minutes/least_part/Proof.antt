@@ -1,12 +1,12 @@
 -- Where low's own day has no time left, the search goes on from the next.
-use mathlib.Core.Path.{_≡_, sym, ap, _∙_}
-use Prim.Native.Nat.{ℕ, _+_, _-_, _*_, _/_, _%_, _<_}
+use mathlib.Core.Path.{_≡_}
+use Prim.Native.Nat.{_+_, _-_, _*_, _/_, _%_}
 use native.Mathlib.Omega.{arith}
 use borrow.Author.Needs.{needs}
 use denote.Ref.{now}
 use Rattle.held.specs.Minutes.{timePart}
 use Rattle.frames.specs.Numbers.{dayHeld}
-use Rattle.calendar.proofs.Leasts.{Least, least-none, least-after}
+use Rattle.calendar.proofs.Leasts.{least-none, least-after}
 use Rattle.held.specs.Minutes.{minutePart}
 use Rattle.held.proofs.Pairs.{times-none, time-past}
 use Rattle.held.proofs.minutes.least_part.Statement.{statement}

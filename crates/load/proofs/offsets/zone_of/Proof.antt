@@ -1,10 +1,9 @@
 -- The loop's invariant: the zone so far with the transitions left is the zone.
 use native.Mathlib.Omega.{arith}
-use mathlib.Core.Path.{_≡_, refl, sym, ap, _∙_}
-use Prim.Native.Nat.{_-_, _<_}
+use Prim.Native.Nat.{_-_}
 use borrow.Author.Needs.{needs}
 use denote.Ref.{now}
-use Rattle.load.proofs.Zones.{Rest, rest-first, rest-none, rest-stops, rest-on}
+use Rattle.load.proofs.ZoneRows.{Rest, rest-first, rest-none, rest-stops, rest-on}
 use Rattle.load.proofs.offsets.zone_of.Statement.{statement}
 use Rattle.load.proofs.offsets.zone_of.Tie as tie
 

@@ -1,6 +1,5 @@
 -- The definition's cases.
-use mathlib.Core.Bool.{true}
-use mathlib.Core.Path.{_≡_, sym, ap, _∙_}
+use mathlib.Core.Path.{sym, ap, _∙_}
 use borrow.Author.Needs.{needs}
 use Rattle.plan.specs.Taken.{place, zoned, frameGood}
 use Rattle.load.proofs.Places.{change-window}

@@ -1,0 +1,93 @@
+-- What C is answered of a plan, by the signed instants and local minutes that it hands in: "Next and previous: 10, then 11. A local minute
+-- mapped by a plan's zone: 10, then 5. A refusal answers its number, its line or 0, and zeros for every other number."
+use mathlib.Core.Bool.{Bool, true}
+use mathlib.Core.List.{List}
+use mathlib.Core.Path.{_≡_}
+use Prim.Native.Nat.{ℕ}
+use lib.IntN.{ℤ, pos, negsuc}
+use lib.Signed.{ltZ}
+use Rattle.load.specs.declared.Loaded.{Loaded as Load}
+use Rattle.next.specs.declared.Answer.{Answer}
+use Rattle.next.specs.declared.Local.{Local}
+use Rattle.plan.specs.Plan.{PlanInstant, planZone}
+use Rattle.plan.specs.Taken.{Loaded, taken, refused, load, loadedNumber, loadedLine}
+use Rattle.plan.specs.declared.Frame.{Frame}
+use Rattle.signed.specs.Bias.{unbiasInstant}
+use Rattle.zone.specs.Stretches.{instantOfLocal}
+use Rattle.zone.specs.declared.stretch.Instant.{Instant}
+use Rattle.evandrusk.specs.declared.answers.EvkChecked.{EvkChecked}
+use Rattle.evandrusk.specs.declared.answers.EvkFound.{EvkFound}
+
+-- the load check: 0, or 10 with the line
+unfoldable pub checkAnswer : List ℕ → EvkChecked
+checkAnswer plan = record { number = loadedNumber (load plan); line = loadedLine (load plan) }
+
+abbrev pub checkedAs : Load → EvkChecked
+checkedAs (Load.Taken n) = record { number = 0; line = 0 }
+checkedAs (Load.Refused k) = record { number = 10; line = k }
+
+-- an instant is answered with 0, and a refusal with its number and line
+abbrev pub foundAt : ℤ → EvkFound
+foundAt z = record { number = 0; line = 0; instant = z }
+
+abbrev pub refusedAs : ℕ → ℕ → EvkFound
+refusedAs number line = record { number = number; line = line; instant = pos 0 }
+
+abbrev pub answerAs : Answer → EvkFound
+answerAs (Answer.Is i) = foundAt (unbiasInstant i)
+answerAs Answer.Never = refusedAs 11 0
+answerAs (Answer.Refused k) = refusedAs 10 k
+
+abbrev pub localAs : Local → EvkFound
+localAs (Local.Is i) = foundAt (unbiasInstant i)
+localAs Local.Outside = refusedAs 5 0
+localAs (Local.Refused k) = refusedAs 10 k
+
+-- an instant of the plan as C gets it
+pub record SignedInstant (fs : List Frame) (z : ℤ) : Type 0 where
+  pub inside : ℕ
+  pub is : PlanInstant fs inside
+  pub becomes : unbiasInstant inside ≡ z
+
+-- z is the nearest of some instants strictly beyond the asked one: `before` is the order of time for next, and its mirror image for previous
+pub record Nearest (before : ℤ → ℤ → Bool) (instants : ℤ → Type 0) (asked z : ℤ) : Type 0 where
+  pub is : instants z
+  pub beyond : before asked z ≡ true
+  pub nearest : (y : ℤ) → instants y → before asked y ≡ true → before y z ≡ true → ⊥
+
+-- 0 with that instant, or 11 where there is none
+pub data NearestFound (before : ℤ → ℤ → Bool) (instants : ℤ → Type 0) (asked : ℤ) (r : EvkFound) : Type 0 where
+  found : (z : ℤ) → Nearest before instants asked z → r ≡ foundAt z → NearestFound before instants asked r
+  none : ((z : ℤ) → instants z → before asked z ≡ true → ⊥) → r ≡ refusedAs 11 0 → NearestFound before instants asked r
+
+unfoldable pub NearestBy : (ℤ → ℤ → Bool) → Loaded → ℤ → EvkFound → Type 0
+NearestBy before (taken fs) asked r = NearestFound before (SignedInstant fs) asked r
+NearestBy before (refused k) asked r = r ≡ refusedAs 10 k
+
+abbrev pub later : ℤ → ℤ → Bool
+later a b = ltZ b a
+
+-- next and previous, of any signed instant
+unfoldable pub NextAnswer : List ℕ → ℤ → EvkFound → Type 0
+NextAnswer plan asked r = NearestBy ltZ (load plan) asked r
+
+unfoldable pub PreviousAnswer : List ℕ → ℤ → EvkFound → Type 0
+PreviousAnswer plan asked r = NearestBy later (load plan) asked r
+
+-- the instant of any signed local minute: a negative one is outside the window too
+abbrev pub localFound : Instant → EvkFound
+localFound (Instant.Is i) = foundAt (unbiasInstant i)
+localFound Instant.Outside = refusedAs 5 0
+
+unfoldable pub localBy : Loaded → ℤ → EvkFound
+localBy (taken fs) (pos m) = localFound (instantOfLocal (planZone fs) m)
+localBy (taken fs) (negsuc n) = refusedAs 5 0
+localBy (refused k) z = refusedAs 10 k
+
+-- a signed local minute inside: 52,596,000, the first past the window, for a negative one
+abbrev pub minuteOf : ℤ → ℕ
+minuteOf (pos m) = m
+minuteOf (negsuc n) = 52596000
+
+unfoldable pub localAnswer : List ℕ → ℤ → EvkFound
+localAnswer plan z = localBy (load plan) z

@@ -1,0 +1,45 @@
+-- What a plan's text is asked: "Next and previous: 10, then 11. A local minute mapped by a plan's zone: 10, then 5."
+use mathlib.Core.List.{List}
+use mathlib.Core.Path.{_≡_}
+use Prim.Native.Nat.{ℕ}
+use Rattle.plan.specs.Plan.{PlanInstant, planZone}
+use Rattle.plan.specs.Taken.{Loaded, taken, refused, load}
+use Rattle.plan.specs.declared.Frame.{Frame}
+use Rattle.zone.specs.Stretches.{instantOfLocal}
+use Rattle.zone.specs.declared.stretch.Instant.{Instant}
+use Rattle.next.specs.Instants.{NextOf, PreviousOf}
+use Rattle.next.specs.declared.Answer.{Answer}
+use Rattle.next.specs.declared.Found.{Found}
+use Rattle.next.specs.declared.Local.{Local}
+
+-- the answer where the plan is taken
+abbrev pub answerOf : Found → Answer
+answerOf (Found.Is i) = Answer.Is i
+answerOf Found.Never = Answer.Never
+
+abbrev pub localOf : Instant → Local
+localOf (Instant.Is i) = Local.Is i
+localOf Instant.Outside = Local.Outside
+
+-- 10 with the line where the plan is not taken; else what is right of its frames
+unfoldable pub AnswerBy : (List Frame → Found → Type 0) → Loaded → Answer → Type 0
+AnswerBy right (taken fs) (Answer.Is i) = right fs (Found.Is i)
+AnswerBy right (taken fs) Answer.Never = right fs Found.Never
+AnswerBy right (taken fs) (Answer.Refused k) = ⊥
+AnswerBy right (refused k) r = r ≡ Answer.Refused k
+
+-- the first instant of the plan strictly later than the asked one
+unfoldable pub NextIn : List ℕ → ℕ → Answer → Type 0
+NextIn plan asked r = AnswerBy (λ (fs : List Frame). NextOf (PlanInstant fs) asked) (load plan) r
+
+-- the last strictly earlier than it
+unfoldable pub PreviousIn : List ℕ → ℕ → Answer → Type 0
+PreviousIn plan asked r = AnswerBy (λ (fs : List Frame). PreviousOf (PlanInstant fs) asked) (load plan) r
+
+-- the instant of a local minute by the plan's zone
+unfoldable pub localBy : Loaded → ℕ → Local
+localBy (taken fs) m = localOf (instantOfLocal (planZone fs) m)
+localBy (refused k) m = Local.Refused k
+
+unfoldable pub localIn : List ℕ → ℕ → Local
+localIn plan m = localBy (load plan) m

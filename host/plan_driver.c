@@ -1,0 +1,161 @@
+/* Answers requests about plans, a line each, from standard input on standard output: the way in for the reference's comparison.
+
+     check PLAN                      NUMBER LINE
+     next PLAN INSTANT COUNT         NUMBER LINE INSTANT,.. : COUNT answers, each asked from the one before, or up to a refusal
+     previous PLAN INSTANT COUNT     likewise
+     local PLAN MINUTE ..            NUMBER LINE INSTANT,.. : the instant of each local minute
+
+   PLAN is the plan's bytes in hex, two digits a byte, `-` for none: a plan that is not taken may hold any bytes, and any number of them.
+   Other numbers are signed 64-bit decimals. A line of another form is answered by `bad request`, and the exit status is then 1; 2 means
+   that reading, writing or memory failed. */
+#define _POSIX_C_SOURCE 200809L
+#include <errno.h>
+#include <inttypes.h>
+#include <stdio.h>
+#include <stdlib.h>
+#include <string.h>
+
+#include "evandrusk.h"
+
+typedef evk_found search(const uint8_t *plan, size_t plan_length, int64_t asked);
+
+typedef struct { uint8_t *bytes; size_t length; } plan;
+
+static void fail(void) {
+    perror("plan_driver");
+    exit(2);
+}
+
+static int digit(char c) {
+    return '0' <= c && c <= '9' ? c - '0' : 'A' <= c && c <= 'F' ? c - 'A' + 10 : -1;
+}
+
+/* Reads a plan: 1, or 0 where the word is none. Its bytes fill their memory exactly, so that a checker of memory sees a read past them. */
+static int read_plan(const char *word, plan *made) {
+    size_t digits = strcmp(word, "-") == 0 ? 0 : strlen(word);
+    if (digits % 2 != 0) {
+        return 0;
+    }
+    made->length = digits / 2;
+    made->bytes = NULL;
+    if (made->length == 0) {
+        return 1;
+    }
+    made->bytes = malloc(made->length);
+    if (made->bytes == NULL) {
+        fail();
+    }
+    for (size_t i = 0; i < made->length; i++) {
+        int high = digit(word[2 * i]), low = digit(word[2 * i + 1]);
+        if (high < 0 || low < 0) {
+            free(made->bytes);
+            return 0;
+        }
+        made->bytes[i] = (uint8_t)(16 * high + low);
+    }
+    return 1;
+}
+
+/* Reads the next number of the line: 1, 0 at the line's end, or -1 where another word stands. */
+static int read_number(int64_t *number) {
+    char *word = strtok(NULL, " ");
+    if (word == NULL) {
+        return 0;
+    }
+    char *end;
+    errno = 0;
+    intmax_t value = strtoimax(word, &end, 10);
+    *number = value;
+    return errno == 0 && end != word && *end == 0 && INT64_MIN <= value && value <= INT64_MAX ? 1 : -1;
+}
+
+static void show(const char *before, evk_found r) {
+    printf("%s%" PRIu64 " %" PRIu64 " %" PRId64, before, r.number, r.line, r.instant);
+}
+
+static int check(plan p) {
+    if (strtok(NULL, " ") != NULL) {
+        return 0;
+    }
+    evk_checked r = evk_check(p.bytes, p.length);
+    printf("%" PRIu64 " %" PRIu64, r.number, r.line);
+    return 1;
+}
+
+static int in_turn(plan p, search *one) {
+    int64_t asked, count;
+    if (read_number(&asked) != 1 || read_number(&count) != 1 || count < 1 || strtok(NULL, " ") != NULL) {
+        return 0;
+    }
+    evk_found r = one(p.bytes, p.length, asked);
+    show("", r);
+    for (int64_t k = 1; k < count && r.number == EVK_TAKEN; k++) {
+        r = one(p.bytes, p.length, r.instant);
+        show(",", r);
+    }
+    return 1;
+}
+
+static int next(plan p) {
+    return in_turn(p, evk_next);
+}
+
+static int previous(plan p) {
+    return in_turn(p, evk_previous);
+}
+
+static int local(plan p) {
+    int64_t minute;
+    const char *before = "";
+    int got;
+    while ((got = read_number(&minute)) == 1) {
+        show(before, evk_instant_of_local(p.bytes, p.length, minute));
+        before = ",";
+    }
+    return got == 0 && *before != 0;
+}
+
+static const struct request {
+    const char *name;
+    int (*answer)(plan p);
+} requests[] = {
+    {"check", check},
+    {"next", next},
+    {"previous", previous},
+    {"local", local},
+};
+
+/* Answers one line: 1, or 0 for a bad request. */
+static int answer(char *line) {
+    char *name = strtok(line, " ");
+    char *hex = strtok(NULL, " ");
+    for (size_t i = 0; hex != NULL && i < sizeof requests / sizeof requests[0]; i++) {
+        plan p;
+        if (strcmp(name, requests[i].name) == 0 && read_plan(hex, &p)) {
+            int good = requests[i].answer(p);
+            free(p.bytes);
+            return good;
+        }
+    }
+    return 0;
+}
+
+int main(void) {
+    char *line = NULL;
+    size_t room = 0;
+    ssize_t length;
+    int status = 0;
+    while ((length = getline(&line, &room, stdin)) > 0) {
+        line[length - (line[length - 1] == '\n')] = 0;
+        if (!answer(line)) {
+            fputs("bad request", stdout);
+            status = 1;
+        }
+        putchar('\n');
+    }
+    free(line);
+    if (ferror(stdin) || fflush(stdout) != 0 || ferror(stdout)) {
+        fail();
+    }
+    return status;
+}

@@ -1,0 +1,64 @@
+//! The protocol's requests about plans, as `host/plan_driver.c` answers them. A line may have several answers,
+//! with commas between.
+
+use std::cell::RefCell;
+use std::rc::Rc;
+
+use crate::entries::{Found, Loaded};
+use crate::hex::bytes_of;
+
+thread_local! {
+    /// The plan that was asked last. What it holds is worked out once for all requests about it that follow.
+    static LAST: RefCell<Option<(String, Rc<Loaded>)>> = const { RefCell::new(None) };
+}
+
+/// The answer line, without LF; none if the line is no request about a plan.
+pub fn answer(request: &str) -> Option<String> {
+    let mut words = request.split(' ');
+    let name = words.next()?;
+    if !["check", "next", "previous", "local"].contains(&name) {
+        return None;
+    }
+    let plan = loaded(words.next()?);
+    let numbers: Option<Vec<i64>> = words.map(|word| word.parse().ok()).collect();
+    match (name, numbers?.as_slice()) {
+        ("check", []) => {
+            let found = plan.check();
+            Some(format!("{} {}", found.number, found.line))
+        }
+        ("next", &[asked, count]) => Some(in_turn(asked, count, |at| plan.next(at))),
+        ("previous", &[asked, count]) => Some(in_turn(asked, count, |at| plan.previous(at))),
+        ("local", minutes @ [_, ..]) => {
+            let found = minutes.iter().map(|&minute| plan.instant_of_local(minute));
+            Some(texts(found))
+        }
+        _ => None,
+    }
+}
+
+fn loaded(word: &str) -> Rc<Loaded> {
+    LAST.with_borrow_mut(|last| match last {
+        Some((asked, plan)) if asked == word => Rc::clone(plan),
+        _ => {
+            let plan = Rc::new(Loaded::new(&bytes_of(word)));
+            *last = Some((word.to_string(), Rc::clone(&plan)));
+            plan
+        }
+    })
+}
+
+/// Answers that are each asked from the one before, so many or up to a refusal.
+fn in_turn(asked: i64, count: i64, search: impl Fn(i64) -> Found) -> String {
+    let taken = |found: &Found| found.number == 0;
+    let all = std::iter::successors(Some(search(asked)), |found| {
+        taken(found).then(|| search(found.instant))
+    });
+    texts(all.take(count as usize))
+}
+
+fn texts(all: impl Iterator<Item = Found>) -> String {
+    let all: Vec<String> = all
+        .map(|found| format!("{} {} {}", found.number, found.line, found.instant))
+        .collect();
+    all.join(",")
+}

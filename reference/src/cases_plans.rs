@@ -1,0 +1,316 @@
+//! The suite `plans`: the load check, next, previous and local minutes of generated plans, taken and damaged.
+
+use crate::entries::compile;
+use crate::generate::{
+    bad_plan, crowded_sheet, damaged, damaged_everywhere, empty_sheet, ends_sheet, full_sheet,
+    midnight_sheet, near_a_transition, plans_at_the_edges, plans_at_the_zone_limits, sheet,
+};
+use crate::hex::word_of;
+use crate::local::{FIRST_MINUTE, LAST_MINUTE};
+use crate::plan::{self, frame::Frame, Plan};
+use crate::random::Random;
+use crate::zone::Zone;
+
+type Requests = Box<dyn Iterator<Item = String>>;
+
+/// Rounds for `--times 1`: a plan of a sort, damaged copies of it, and another plan that is mostly refused.
+const ROUNDS: u64 = 300;
+const SORTS: u64 = 10;
+const DAMAGES: u64 = 4;
+const BAD_SORTS: u64 = 8;
+
+/// No instant lies before the first or after the last of these.
+const FIRST_INSTANT: i64 = FIRST_MINUTE - 840;
+const LAST_INSTANT: i64 = LAST_MINUTE + 720;
+
+/// Document 01's whole example.
+const EXAMPLE: &str = "\
+01003C
+0200D2963C0078
+0200D7337C003C
+03000000004000000000000004FFFFFFFE1FFE7F00
+FF04
+";
+
+/// A frame of every kind, rules of every frequency and with every group of fields. The starts are the 31st, a
+/// Saturday and the fifth one, so that a wrong field leaves the start an occurrence as often as can be.
+const EVERY_KIND: &str = "\
+Z +0100
+T 20260329T0100 +0200
+T 20261025T0100 +0100
+C 30 2 * * *
+C 0-59 0-23 1-31 1-12 0-6
+C 0 0 13 2 5
+R 20260131T0600 FREQ=DAILY
+R 20260131T0600 FREQ=DAILY;INTERVAL=999;BYDAY=SA;BYMONTHDAY=31,-1
+R 20260131T0600 FREQ=WEEKLY
+R 20260131T0600 FREQ=WEEKLY;INTERVAL=2;BYDAY=SU,SA;UNTIL=20260131T0600
+R 20260131T0600 FREQ=MONTHLY
+R 20260131T0600 FREQ=MONTHLY;BYDAY=SA
+R 20260131T0600 FREQ=MONTHLY;BYDAY=SA,5SA,-1SA;BYMONTHDAY=31,-1;COUNT=3
+R 20260131T0600 FREQ=MONTHLY;BYDAY=5SA
+R 20260131T0600 FREQ=MONTHLY;BYDAY=MO,SA;BYSETPOS=-1,9
+D 20260329T0230
+X 20260329T0330
+";
+
+pub fn requests(seed: u64, times: u64) -> Requests {
+    let mut random = Random::new(seed);
+    let mut fixed = example_damaged();
+    fixed.extend(lengths_of_a_plan());
+    let every_kind = plan_of(EVERY_KIND);
+    fixed.extend(about(every_kind.as_bytes(), &mut random));
+    let damages = [damaged_everywhere(&every_kind), plans_at_the_zone_limits()].concat();
+    fixed.extend(damages.iter().map(|text| check(text)));
+    for text in plans_at_the_edges(&mut random) {
+        fixed.extend(about(&text, &mut random));
+    }
+    let rounds = times.saturating_mul(ROUNDS);
+    let rounds = (0..rounds).flat_map(move |number| round(number, &mut random));
+    Box::new(fixed.into_iter().chain(rounds))
+}
+
+fn check(text: &[u8]) -> String {
+    format!("check {}", word_of(text))
+}
+
+/// The example cut after each byte, with each byte changed, left out and doubled, and with something after it.
+fn example_damaged() -> Vec<String> {
+    let text = EXAMPLE.as_bytes();
+    let mut all = Vec::new();
+    for at in 0..text.len() {
+        all.push(check(&text[..at]));
+        for other in *b"0F\nGf \r\0" {
+            all.push(check(&replaced(text, at..at + 1, &[other])));
+        }
+        all.push(check(&replaced(text, at..at + 1, b"")));
+        all.push(check(&replaced(text, at..at, &text[at..at + 1])));
+    }
+    for tail in ["", "\n", " ", "F", "FF04\n", "FF05\n", "01003C\n", "\0"] {
+        all.push(check(format!("{EXAMPLE}{tail}").as_bytes()));
+    }
+    all
+}
+
+fn replaced(text: &[u8], place: std::ops::Range<usize>, by: &[u8]) -> Vec<u8> {
+    [&text[..place.start], by, &text[place.end..]].concat()
+}
+
+/// 0 to 70 frames before the end frame with every number near theirs, 30 to 35 transitions, and lines far longer
+/// than any frame.
+fn lengths_of_a_plan() -> Vec<String> {
+    let mut all = Vec::new();
+    for transitions in 30..=35_i64 {
+        let line = |k: i64| format!("02{:08X}{:04X}\n", 2_880 * k, 60 + k % 2 * 60);
+        let lines: String = (1..=transitions).map(line).collect();
+        let end = format!("FF{:02X}\n", transitions + 1);
+        all.push(check(format!("01003C\n{lines}{end}").as_bytes()));
+    }
+    for frames in 0..=70_i64 {
+        let lines: String = (0..frames).map(line_of_zone_or_extra).collect();
+        for number in [frames - 1, frames, frames + 1] {
+            all.push(check(
+                format!("{lines}FF{:02X}\n", number & 0xFF).as_bytes(),
+            ));
+        }
+        all.push(check(lines.as_bytes()));
+    }
+    for digits in [78, 80, 256, 1_000, 20_000] {
+        let long = "0".repeat(digits);
+        all.push(check(format!("01003C\n{long}\nFF02\n").as_bytes()));
+        all.push(check(format!("01003C\n04{long}\nFF02\n").as_bytes()));
+        all.push(check(format!("{EXAMPLE}{long}").as_bytes()));
+    }
+    all
+}
+
+fn line_of_zone_or_extra(place: i64) -> String {
+    match place {
+        0 => "01003C\n".to_string(),
+        _ => format!("05{place:08X}\n"),
+    }
+}
+
+fn round(number: u64, random: &mut Random) -> Vec<String> {
+    let text = plan_of(&some_sheet(number % SORTS, random));
+    let mut all = about(text.as_bytes(), random);
+    for _ in 0..DAMAGES {
+        all.extend(about_few(&damaged(&text, random), random));
+    }
+    all.extend(about(&bad_plan(number % BAD_SORTS, random), random));
+    all
+}
+
+fn plan_of(sheet: &str) -> String {
+    let (compiled, text) = compile(sheet.as_bytes(), usize::MAX);
+    assert_eq!(compiled.number, 0, "this sheet should be taken:\n{sheet}");
+    text
+}
+
+fn some_sheet(sort: u64, random: &mut Random) -> String {
+    match sort {
+        0 => full_sheet(random),
+        1 => empty_sheet(random),
+        2 => ends_sheet(random),
+        3 => crowded_sheet(random),
+        4 | 5 => midnight_sheet(random),
+        _ => sheet(random),
+    }
+}
+
+/// Everything that is asked of a plan.
+fn about(text: &[u8], random: &mut Random) -> Vec<String> {
+    match plan::read(text) {
+        Ok(taken) => Asker::new(text, &taken, random).all(),
+        Err(_) => about_few(text, random),
+    }
+}
+
+/// Each function about once, which is enough for a refused plan: its answer is the same for all instants.
+fn about_few(text: &[u8], random: &mut Random) -> Vec<String> {
+    let plan = word_of(text);
+    let (instant, minute) = (any_instant(random), any_instant(random));
+    vec![
+        check(text),
+        format!("next {plan} {instant} 3"),
+        format!("previous {plan} {instant} 3"),
+        format!("local {plan} {minute} {}", random.any()),
+    ]
+}
+
+fn any_instant(random: &mut Random) -> i64 {
+    random.between(FIRST_INSTANT - 1, LAST_INSTANT + 1)
+}
+
+/// The requests about a taken plan.
+struct Asker<'a> {
+    word: String,
+    plan: &'a Plan,
+    /// Answers in a row; of a long plan fewer, since each of them loads it again.
+    in_turn: i64,
+    random: &'a mut Random,
+    requests: Vec<String>,
+}
+
+impl Asker<'_> {
+    fn new<'a>(text: &[u8], plan: &'a Plan, random: &'a mut Random) -> Asker<'a> {
+        Asker {
+            word: word_of(text),
+            plan,
+            in_turn: if plan.frames.len() > 40 { 12 } else { 40 },
+            random,
+            requests: vec![check(text)],
+        }
+    }
+
+    fn all(mut self) -> Vec<String> {
+        self.at_the_extremes();
+        for _ in 0..2 {
+            let from = any_instant(self.random);
+            self.both_ways(from, from);
+        }
+        for _ in 0..self.plan.zone.transitions.len().min(3) {
+            self.around_a_transition();
+        }
+        for _ in 0..3 {
+            self.around_a_named_minute();
+        }
+        self.local_minutes();
+        self.requests
+    }
+
+    /// Next from the one instant on, previous from the other down.
+    fn both_ways(&mut self, up_from: i64, down_from: i64) {
+        let (word, count) = (&self.word, self.in_turn);
+        self.requests.push(format!("next {word} {up_from} {count}"));
+        self.requests
+            .push(format!("previous {word} {down_from} {count}"));
+    }
+
+    fn once(&mut self, instant: i64) {
+        let word = &self.word;
+        self.requests.push(format!("next {word} {instant} 1"));
+        self.requests.push(format!("previous {word} {instant} 1"));
+    }
+
+    /// The ends of the 64-bit numbers, where an offset would overflow, and those of the window.
+    fn at_the_extremes(&mut self) {
+        self.both_ways(i64::MIN, i64::MAX);
+        for instant in [i64::MIN, i64::MAX, i64::MIN + 720, i64::MAX - 840] {
+            self.once(instant);
+        }
+        let any = self.random.any();
+        self.once(any);
+        for end in [FIRST_INSTANT, LAST_INSTANT] {
+            let near = end + self.random.between(-2_000, 2_000);
+            self.once(near);
+        }
+    }
+
+    fn around_a_transition(&mut self) {
+        let chosen = self.chosen(self.plan.zone.transitions.len());
+        let at = self.plan.zone.transitions[chosen].instant;
+        let (before, after) = (self.random.between(0, 1_600), self.random.between(0, 1_600));
+        self.both_ways(at - before, at + after);
+        let near = at + self.random.between(-181, 181);
+        for instant in [at - 1, at, at + 1, near] {
+            self.once(instant);
+        }
+    }
+
+    /// The instant of an extra or excepted minute, or of the start or *last* of a rule, and those beside it.
+    fn around_a_named_minute(&mut self) {
+        let named: Vec<i64> = self.plan.frames.iter().flat_map(named_by).collect();
+        if !named.is_empty() {
+            let minute = named[self.chosen(named.len())];
+            let instant = self.plan.zone.instant_of(minute);
+            for asked in [instant - 1, instant, instant + 1] {
+                self.once(asked);
+            }
+        }
+    }
+
+    fn chosen(&mut self, choices: usize) -> usize {
+        self.random.between(0, choices as i64 - 1) as usize
+    }
+
+    /// Minutes in and around gaps and doubled hours, at both ends of the window and outside it.
+    fn local_minutes(&mut self) {
+        let mut minutes = vec![
+            i64::MIN,
+            FIRST_MINUTE - 1,
+            FIRST_MINUTE,
+            LAST_MINUTE,
+            LAST_MINUTE + 1,
+            i64::MAX,
+            self.random.any(),
+        ];
+        for _ in 0..20 {
+            minutes.push(near_a_transition(&self.plan.zone, self.random));
+            minutes.push(any_instant(self.random));
+        }
+        for at in 0..self.plan.zone.transitions.len().min(8) {
+            minutes.extend(sides(&self.plan.zone, at));
+        }
+        let words: Vec<String> = minutes.iter().map(i64::to_string).collect();
+        self.requests
+            .push(format!("local {} {}", self.word, words.join(" ")));
+    }
+}
+
+/// The first and the last minute of a gap or a doubled hour, and those beside them.
+fn sides(zone: &Zone, at: usize) -> [i64; 4] {
+    let transition = &zone.transitions[at];
+    let before = transition.instant + zone.offset_at(transition.instant - 1);
+    let after = transition.instant + transition.offset;
+    let (first, past) = (before.min(after), before.max(after));
+    [first - 1, first, past - 1, past]
+}
+
+fn named_by(frame: &Frame) -> Vec<i64> {
+    match frame {
+        Frame::Extra { minute } | Frame::Excepted { minute } => vec![*minute],
+        Frame::Rule(rule) => vec![rule.start, rule.last],
+        _ => Vec::new(),
+    }
+}
