@@ -7,7 +7,7 @@ use lib.Dec.{ltb, eqb}
 use lib.ListN.{length}
 use Rattle.calendar.specs.Below.{anyOf}
 use Rattle.calendar.specs.Window.{localDate, localWeekday}
-use Rattle.frames.specs.Search.{nthFrom}
+use Rattle.days.specs.Search.{nthFrom}
 use Rattle.frames.specs.declared.Cron.{Cron}
 use Rattle.frames.specs.declared.Ends.{Ends}
 use Rattle.frames.specs.declared.Rule.{Rule}

@@ -1,25 +1,25 @@
--- Sets of a month's days: the whole month, none of it, and what a rule's month adds to its days.
-use mathlib.Core.Bool.{Bool, true, false, cond, _&&_, _||_, and-false, and-true, false≢true}
+-- Sets of a month's days: the whole month, none of it, one built up, and what a frame says of a day by its place.
+use mathlib.Core.Bool.{Bool, true, false, cond, _&&_, _||_, and-true, false≢true}
 use mathlib.Core.Path.{_≡_, refl, sym, ap, _∙_}
-use Prim.Native.Nat.{ℕ, suc, _+_, _-_, _/_, _%_, _^_, _≤_}
+use Prim.Native.Nat.{ℕ, suc, _+_, _-_, _%_, _≤_}
 use native.Mathlib.Omega.{arith}
-use borrow.Author.Tests.{lt-leb, eqb-true}
-use lib.Dec.{T, leb, eqb}
+use borrow.Author.Tests.{lt-leb}
+use lib.Dec.{T, leb}
 use Rattle.calendar.proofs.Every.{every}
-use Rattle.calendar.proofs.Windows.{month-days-range}
 use Rattle.calendar.specs.Below.{everyBelow}
-use Rattle.calendar.specs.Window.{localDate, localWeekday}
-use Rattle.masks.proofs.Bits.{bit-of-zero, bit-of-rest}
+use Rattle.calendar.specs.Window.{monthFirst, monthDays, localWeekday}
+use Rattle.masks.proofs.MaskFroms.{mask-from-same, mask-none, bit-in-mask}
 use Rattle.masks.proofs.WithBits.{mask-from-with-last}
-use Rattle.masks.specs.Masks.{bit, maskFrom, withBit}
+use Rattle.masks.specs.Masks.{bit, maskFrom, withBit, bitsBelow, bitsFrom}
 use Rattle.frames.specs.Cron.{cronDayAt, cronDay}
-use Rattle.frames.specs.Rule.{inSet, placed, period, counts, ruleDay}
-use Rattle.frames.specs.Steps.{dayCounts, monthCounts, rulePart, dayOf, InMonth, SetOf}
+use Rattle.frames.specs.Months.{monthCounts, rulePart, dayOf, InMonth}
+use Rattle.frames.specs.Rule.{noLimit, monthDayAllowed, weekdayAllowed, inSet, placed}
 use Rattle.frames.specs.declared.Cron.{Cron}
 use Rattle.frames.specs.declared.Rule.{Rule}
-use Rattle.frames.proofs.MonthDays.{month-of-day, day-of-day}
+use Rattle.frames.proofs.MonthDays.{in-month, month-of-day, day-of-day, end-of-day, weekday-of-day}
+use Rattle.frames.proofs.Places.{placed-by-bits}
 
-is-true : (b : Bool) → T b → b ≡ true
+pub is-true : (b : Bool) → T b → b ≡ true
 is-true true t = refl
 is-true false t = absurd t
 
@@ -41,27 +41,16 @@ whole-bit n l h =
     let e : leb n 0 ≡ false = lt-leb n 0 l in
     is-true (bit 4294967294 n) (simp e at (every wholeMonth 32 all-whole n (omega arith)))
 
--- a set that leaves no held day out decides nothing: the day's own part is the test
-pub wide-set : (part held : ℕ → Bool) (k set : ℕ) → ((n : ℕ) → InMonth k n → part (dayOf k n) ≡ held (dayOf k n)) → ((n : ℕ) → InMonth k n → held (dayOf k n) ≡ true → bit set n ≡ true)
-    → SetOf part held k set
-wide-set part held k set same wide = record { decides = λ n i. by-day n i (held (dayOf k n)) refl }
-  where
-    by-day : (n : ℕ) → InMonth k n → (b : Bool) → held (dayOf k n) ≡ b → (bit set n && part (dayOf k n)) ≡ held (dayOf k n)
-    by-day n i true e = rw (wide n i e) (same n i)
-    by-day n i false e = rw (same n i, e) (and-false (bit set n))
+-- the set of a month's days that pass a test: no other days, and those
+pub month-none : (test : ℕ → Bool) (k : ℕ) → ((n : ℕ) → InMonth k n → test n ≡ false) → 0 ≡ maskFrom test (monthDays k) 1
+month-none test k none = sym (mask-none test (monthDays k) 1 (λ n l h. none n (in-month k n l (omega arith))))
 
-pub whole-set : (part held : ℕ → Bool) (k : ℕ) → ((n : ℕ) → InMonth k n → part (dayOf k n) ≡ held (dayOf k n)) → SetOf part held k 4294967294
-whole-set part held k same =
-    wide-set part held k 4294967294 same (λ n i e. whole-bit n (i .low) (omega (arith, i .high, month-days-range k (i .month) .1)))
+pub month-same : (test other : ℕ → Bool) (k len : ℕ) → len ≡ monthDays k → ((n : ℕ) → InMonth k n → test n ≡ other n) → maskFrom test len 1 ≡ maskFrom other (monthDays k) 1
+month-same test other k len e same =
+    ap (λ (m : ℕ). maskFrom test m 1) e ∙ mask-from-same test other (monthDays k) 1 (λ n l h. same n (in-month k n l (omega arith)))
 
--- and the empty set goes with a month of which no day is held
-pub empty-set : (part held : ℕ → Bool) (k : ℕ) → ((n : ℕ) → InMonth k n → held (dayOf k n) ≡ false) → SetOf part held k 0
-empty-set part held k none = record { decides = λ n i. rw (bit-of-zero n) (sym (none n i)) }
-
--- a mask without a bit up to len
-pub none-within : (mask len n : ℕ) → eqb (mask % 2 ^ (len + 1)) 0 ≡ true → n ≤ len → bit mask n ≡ false
-none-within mask len n e h =
-    sym (bit-of-rest mask (len + 1) n (omega arith)) ∙ ap (λ (m : ℕ). bit m n) (eqb-true (mask % 2 ^ (len + 1)) 0 e) ∙ bit-of-zero n
+pub month-bit : (test : ℕ → Bool) (k n : ℕ) → InMonth k n → bit (maskFrom test (monthDays k) 1) n ≡ test n
+month-bit test k n i = bit-in-mask test (monthDays k) 1 n (i .low) (omega (arith, i .high))
 
 -- a set built up a day at a time
 built : (test : ℕ → Bool) (n : ℕ) → 1 ≤ n → n ≤ 31 → maskFrom test (n + 1 - 1) 1 ≡ cond (test n) (withBit (maskFrom test (n - 1) 1) n) (maskFrom test (n - 1) 1)
@@ -74,43 +63,39 @@ pub built-none : (test : ℕ → Bool) → 0 ≡ maskFrom test (1 - 1) 1
 unfolding maskFrom
 built-none test = refl
 
+pub built-next : (test : ℕ → Bool) (n set : ℕ) → 1 ≤ n → n ≤ 31 → set ≡ maskFrom test (n - 1) 1 → (b : Bool) → test n ≡ b → cond b (withBit set n) set ≡ maskFrom test (n + 1 - 1) 1
+built-next test n set l h e b t = rw (built test n l h, t, e)
+
 pub built-with : (test : ℕ → Bool) (n set : ℕ) → 1 ≤ n → n ≤ 31 → set ≡ maskFrom test (n - 1) 1 → test n ≡ true → withBit set n ≡ maskFrom test (n + 1 - 1) 1
-built-with test n set l h e t = rw (built test n l h, t, e)
+built-with test n set l h e t = built-next test n set l h e true t
 
 pub built-without : (test : ℕ → Bool) (n set : ℕ) → 1 ≤ n → n ≤ 31 → set ≡ maskFrom test (n - 1) 1 → test n ≡ false → set ≡ maskFrom test (n + 1 - 1) 1
-built-without test n set l h e t = rw (built test n l h, t, e)
+built-without test n set l h e t = built-next test n set l h e false t
 
 pub built-whole : (test : ℕ → Bool) (n len set : ℕ) → set ≡ maskFrom test (n - 1) 1 → n ≡ len + 1 → set ≡ maskFrom test len 1
 built-whole test n len set e d =
     let g : n - 1 ≡ len = omega arith in
     e ∙ ap (λ (k : ℕ). maskFrom test k 1) g
 
--- a cron frame's day by its place
-pub cron-day-at : (f : Cron) (k n : ℕ) → InMonth k n → cronDay f (dayOf k n) ≡ cronDayAt f (k % 12 + 1) n (localWeekday (dayOf k n))
+-- a frame's day by its place
+pub cron-day-at : (f : Cron) (k n : ℕ) → InMonth k n → cronDay f (dayOf k n) ≡ cronDayAt f (k % 12 + 1) n ((localWeekday (monthFirst k) + (n - 1)) % 7)
 unfolding cronDay
-cron-day-at f k n i = rw (month-of-day k n i, day-of-day k n i)
+cron-day-at f k n i = rw (month-of-day k n i, day-of-day k n i, weekday-of-day k n i)
 
--- a rule's interval: that of a day or a week with the day, that of a month with the month
-by-frequency : (f : Rule) (start k n : ℕ) → start ≡ localDate (f .start / 1440) .month → InMonth k n → (a b : Bool) → eqb (f .frequency) 1 ≡ a → eqb (f .frequency) 2 ≡ b → counts f (dayOf k n) ≡ (dayCounts f (dayOf k n) && monthCounts f start k)
-unfolding counts dayCounts monthCounts period
-by-frequency f start k n e i true b p q = simp (p, and-true)
-by-frequency f start k n e i false true p q = simp (p, q, and-true)
-by-frequency f start k n e i false false p q = simp (p, q, month-of-day k n i, e)
+pub in-set-at : (f : Rule) (k n : ℕ) → InMonth k n
+    → inSet f (dayOf k n) ≡ (monthDayAllowed f n (monthDays k + 1 - n) && weekdayAllowed f n (monthDays k + 1 - n) ((localWeekday (monthFirst k) + (n - 1)) % 7))
+unfolding inSet
+in-set-at f k n i = rw (day-of-day k n i, end-of-day k n i, weekday-of-day k n i)
 
-pub counts-split : (f : Rule) (start k n : ℕ) → start ≡ localDate (f .start / 1440) .month → InMonth k n → counts f (dayOf k n) ≡ (dayCounts f (dayOf k n) && monthCounts f start k)
-counts-split f start k n e i = by-frequency f start k n e i (eqb (f .frequency) 1) (eqb (f .frequency) 2) refl refl
+-- a rule's day by its month, without positions and with them
+module _ (f : Rule) (start k n : ℕ) (m : monthCounts f start k ≡ true) (i : InMonth k n) where
+  pub free-part : noLimit (f .positions) ≡ true → inSet f (dayOf k n) ≡ rulePart f start k (dayOf k n)
+  unfolding rulePart placed
+  free-part l = rw (m, placed, l) (sym (and-true (inSet f (dayOf k n))))
 
--- a rule's day: its own part, its month's interval and its place
-rearranged : (a b c d e : Bool) → (a && (b && c && (d && e))) ≡ (c && e && (a && (b && d)))
-rearranged false b c d e = sym (and-false (c && e))
-rearranged true false c d e = sym (and-false (c && e))
-rearranged true true false d e = refl
-rearranged true true true false e = sym (and-false e)
-rearranged true true true true e = sym (and-true e)
-
-pub rule-day-split : (f : Rule) (start k n : ℕ) → start ≡ localDate (f .start / 1440) .month → InMonth k n → ruleDay f (dayOf k n) ≡ (monthCounts f start k && placed f (dayOf k n) && rulePart f (dayOf k n))
-unfolding ruleDay rulePart
-rule-day-split f start k n e i =
-    let d : ℕ = dayOf k n in
-    ap (λ (b : Bool). leb (f .start / 1440) d && (b && (inSet f d && placed f d))) (counts-split f start k n e i)
-    ∙ rearranged (leb (f .start / 1440) d) (dayCounts f d) (monthCounts f start k) (inSet f d) (placed f d)
+  pub picked-part : (s : ℕ) → s ≡ maskFrom (λ j. inSet f (dayOf k j)) (monthDays k) 1 → noLimit (f .positions) ≡ false
+      → (bit s n && (bit (f .positions .front) (bitsBelow s (n + 1)) || bit (f .positions .back) (bitsFrom s n))) ≡ rulePart f start k (dayOf k n)
+  unfolding rulePart
+  picked-part s e l =
+      let b : bit s n ≡ inSet f (dayOf k n) = ap (λ (x : ℕ). bit x n) e ∙ month-bit (λ j. inSet f (dayOf k j)) k n i in
+      rw (m, b, placed-by-bits f k n i s e l)

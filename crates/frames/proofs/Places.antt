@@ -1,17 +1,18 @@
 -- A day's place in its month's day set, counted over days and over the bits of the set.
-use mathlib.Core.Bool.{Bool, false, _||_}
-use mathlib.Core.Path.{_≡_, refl, ap, _∙_}
-use Prim.Native.Nat.{ℕ, zero, suc, _+_, _-_, _≤_, min}
+use mathlib.Core.Bool.{Bool, true, false, _&&_, _||_}
+use mathlib.Core.Path.{_≡_, refl, sym, ap, _∙_}
+use Prim.Native.Nat.{ℕ, zero, suc, _+_, _-_, _^_, _<_, _≤_, min}
 use native.Mathlib.Nat.{add-suc}
 use native.Mathlib.Omega.{arith}
 use Rattle.calendar.proofs.Windows.{month-days-range}
 use Rattle.calendar.specs.Below.{countFrom}
 use Rattle.calendar.specs.Window.{monthFirst, monthDays}
-use Rattle.masks.proofs.Counts.{count-same, count-parts}
+use Rattle.masks.proofs.Bits.{bit-above}
+use Rattle.masks.proofs.Counts.{count-same, count-at-most, count-parts, bits-below-next, bits-in-two}
 use Rattle.masks.proofs.MaskFroms.{bit-in-mask, bit-below-mask, bit-above-mask}
 use Rattle.masks.specs.Masks.{bit, maskFrom, bitsFrom, bitsBelow}
 use Rattle.frames.specs.Rule.{noLimit, inSet, placed}
-use Rattle.frames.specs.Steps.{dayOf, InMonth}
+use Rattle.frames.specs.Months.{dayOf, InMonth}
 use Rattle.frames.specs.declared.Rule.{Rule}
 use Rattle.frames.proofs.MonthDays.{date-of-day, end-of-day}
 
@@ -69,3 +70,51 @@ module _ (f : Rule) (k n : ℕ) (i : InMonth k n) where
       let a = place-front (inSet f) (monthFirst k) (monthDays k) n (i .high) short in
       let b = place-back (inSet f) (monthFirst k) (monthDays k) n (i .high) short (i .low) in
       rw (l, placed) (rw (date-of-day k n i, end-of-day k n i, e, a, b))
+
+-- a walk over a set's days: those passed and those left are the places of day n
+module _ (s n passed : ℕ) (small : n ≤ 31) (so-far : passed ≡ bitsBelow s n) where
+  pub few-passed : passed ≤ 31
+  unfolding bitsBelow
+  few-passed = omega (arith, so-far, count-at-most (bit s) (min n 64) 0)
+
+  pub passed-on : bit s n ≡ true → passed + 1 ≡ bitsBelow s (n + 1)
+  passed-on t = ap (λ (x : ℕ). x + 1) so-far ∙ sym (bits-below-next s n (omega arith) ∙ rw t refl)
+
+  pub passed-by : bit s n ≡ false → passed ≡ bitsBelow s (n + 1)
+  passed-by f = so-far ∙ sym (bits-below-next s n (omega arith) ∙ rw f (omega arith))
+
+-- a set of days 1 to 31 has no more of them
+module _ (s len : ℕ) (short : len ≤ 31) where
+  few-below : bit s 0 ≡ false → bitsBelow s (1 + len) ≤ 31
+  unfolding bitsBelow
+  few-below z =
+      let e : min (1 + len) 64 ≡ suc len = omega arith in
+      rw e (rw z (omega (arith, count-at-most (bit s) len 1)))
+
+  none-above : s < 2 ^ (1 + len) → bitsFrom s (1 + len) ≡ 0
+  unfolding bitsFrom
+  none-above below = none-counted (bit s) (64 - (1 + len)) (1 + len) (λ j h. bit-above s (1 + len) j below h)
+
+  pub few-days : bit s 0 ≡ false → s < 2 ^ (1 + len) → bitsFrom s 0 ≤ 31
+  few-days z below = omega (arith, bits-in-two s (1 + len) (omega arith), few-below z, none-above below)
+
+-- the wanted places, counted from both ends of the set
+module _ (front back s all wanted : ℕ) (whole : all ≡ bitsFrom s 0) (both : (p : ℕ) → 1 ≤ p → p ≤ all → bit wanted p ≡ (bit front p || bit back (all + 1 - p))) where
+  place-of : (n : ℕ) → n ≤ 31 → (b : Bool) → bit s n ≡ b → (bit s n && bit wanted (bitsBelow s (n + 1))) ≡ (bit s n && (bit front (bitsBelow s (n + 1)) || bit back (bitsFrom s n)))
+  place-of n h false f = rw f refl
+  place-of n h true t =
+      let p : ℕ = bitsBelow s (n + 1) in
+      let g : p ≡ bitsBelow s n + 1 = bits-below-next s n (omega arith) ∙ rw t refl in
+      let a = bits-in-two s n (omega arith) in
+      let b = bits-in-two s (n + 1) (omega arith) in
+      let e : all + 1 - p ≡ bitsFrom s n = omega (arith, g, a, whole) in
+      rw t (both p (omega (arith, g)) (omega (arith, b, whole)) ∙ ap (λ (x : ℕ). bit front p || bit back x) e)
+
+  pub place-wanted : (n : ℕ) → n ≤ 31 → (bit s n && bit wanted (bitsBelow s (n + 1))) ≡ (bit s n && (bit front (bitsBelow s (n + 1)) || bit back (bitsFrom s n)))
+  place-wanted n h = place-of n h (bit s n) refl
+
+pub in-set : (s n : ℕ) (b : Bool) → bit s n ≡ true → (bit s n && b) ≡ b
+in-set s n b t = rw t refl
+
+pub not-in-set : (s n : ℕ) (b : Bool) → bit s n ≡ false → (bit s n && b) ≡ false
+not-in-set s n b f = rw f refl

@@ -2,6 +2,5 @@
 pub mod Cron
 pub mod Rule
 pub mod Numbers
-pub mod Steps
-pub mod Search
+pub mod Months
 pub mod Open

@@ -2,11 +2,10 @@
 use Rattle.calendar.specs.Open.{opened as calendar-opened}
 use Rattle.masks.specs.Open.{opened as masks-opened}
 use Rattle.frames.specs.Cron.{cronDayAt, cronDay, cronTime, cronHeld}
+use Rattle.frames.specs.Months.{monthCounts, rulePart, monthPart, monthSet}
 use Rattle.frames.specs.Numbers.{dayHeld, startMonth}
 use Rattle.frames.specs.Rule.{monthDayAllowed, weekdayAllowed, inSet, placed, period, counts, ruleDay, ruleOccurs, ruleHeld}
-use Rattle.frames.specs.Search.{leastDay, lastDay, nthFrom, nthDay}
-use Rattle.frames.specs.Steps.{dayCounts, rulePart, monthCounts, dayPart, readied}
 
 unfoldable pub opened : Unit {0}
-unfolding calendar-opened masks-opened cronDayAt cronDay cronTime cronHeld dayHeld startMonth monthDayAllowed weekdayAllowed inSet placed period counts ruleDay ruleOccurs ruleHeld leastDay lastDay nthFrom nthDay dayCounts rulePart monthCounts dayPart readied
+unfolding calendar-opened masks-opened cronDayAt cronDay cronTime cronHeld dayHeld startMonth monthDayAllowed weekdayAllowed inSet placed period counts ruleDay ruleOccurs ruleHeld monthCounts rulePart monthPart monthSet
 opened = tt

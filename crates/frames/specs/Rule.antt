@@ -24,12 +24,16 @@ ordinalOf place = (place - 1) / 7 + 1
 abbrev pub ordinalMask : ℕ → ℕ → ℕ
 ordinalMask group n = group / 256 ^ (5 - n) % 256
 
--- "An ordinal weekday is counted within the month, from its end if negative. A weekday list matches if any entry does."
+-- "An ordinal weekday is counted within the month, from its end if negative."
+abbrev pub ordinalAllowed : Ends → ℕ → ℕ → ℕ → Bool
+ordinalAllowed e day back weekday =
+    bit (ordinalMask (e .front) (ordinalOf day)) weekday || bit (ordinalMask (e .back) (ordinalOf back)) weekday
+
+-- "A weekday list matches if any entry does."
 unfoldable pub weekdayAllowed : Rule → ℕ → ℕ → ℕ → Bool
 weekdayAllowed f day back weekday =
     eqb (f .weekdays) 0 && noLimit (f .ordinals)
-    || (bit (f .weekdays) weekday
-    || (bit (ordinalMask (f .ordinals .front) (ordinalOf day)) weekday || bit (ordinalMask (f .ordinals .back) (ordinalOf back)) weekday))
+    || (bit (f .weekdays) weekday || ordinalAllowed (f .ordinals) day back weekday)
 
 -- the period's day set: days that satisfy each limit that is given
 unfoldable pub inSet : Rule → ℕ → Bool

@@ -1,14 +1,10 @@
-// One cron or rule frame on local days: which it holds, and the least and the last of a range.
-mod back;
-pub mod count;
-mod counted;
-mod days;
-mod months;
+// One cron or rule frame: its numbers, and the days of a month that it holds.
+pub mod limits;
+pub mod months;
 pub mod numbers;
-pub mod ranges;
-mod rules;
-mod steps;
-mod truth;
+mod picks;
+pub mod truth;
+mod turns;
 
 // Frame 03: the masks of the five fields; flag bit 0 says that the day of month is restricted, bit 1 that the day of week is.
 pub struct Cron {

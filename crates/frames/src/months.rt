@@ -1,48 +1,59 @@
-// What a frame says of a whole month: the month test, and the positions of a monthly rule.
+// What a frame says of a whole month, as a mask of its days.
 ghost use mathlib.Core.Path.{_≡_};
-ghost use mathlib.Core.Bool.{true, false, _||_};
-ghost use Prim.Native.Nat.{ℕ, _+_, _-_, _/_, _%_, _^_, _≤_, _<_};
+ghost use Prim.Native.Nat.{_%_, _≤_, _<_};
 ghost use lib.Dec.{eqb};
-ghost use lib.ListN.{getD};
-ghost use Rattle.calendar.specs.Window.{monthDays, localDate};
-ghost use Rattle.masks.specs.Masks.{bit, maskFrom, bitsBelow, bitsFrom};
+ghost use Rattle.calendar.specs.Window.{monthFirst, monthDays, localWeekday};
+ghost use Rattle.masks.specs.Masks.{bit, maskFrom};
 ghost use Rattle.frames.specs.Cron.{cronDay};
-ghost use Rattle.frames.specs.Numbers.{dayHeld, startMonth};
-ghost use Rattle.frames.specs.Rule.{noLimit, monthDayAllowed, inSet, placed, ruleDay};
-ghost use Rattle.frames.specs.Steps.{dayPart, rulePart, monthCounts, dayOf, InMonth, SetOf};
+ghost use Rattle.frames.specs.Months.{monthCounts, dayOf, rulePart, monthSet};
+ghost use Rattle.frames.specs.Rule.{inSet};
 use crate::Cron;
 use crate::Rule;
-use crate::days;
+use crate::limits;
 use crate::numbers;
-use crate::rules;
-use crate::truth::both;
-use crate::truth::either;
+use crate::picks;
 use calendar::window;
 use calendar::year;
 
-// No bit of the mask is at or below `len`.
-fn none_within(mask: u64, len: u64) -> bool
-    requires { ⌜ len ≤ 31 ⌝ }
-    ensures { λ r. ⌜ r ≡ eqb (mask % 2 ^ (len + 1)) 0 ⌝ }
+fn first_weekday(k: u64) -> u64
+    requires { ⌜ k < 1200 ⌝ }
+    ensures { λ r. ⌜ r ≡ localWeekday (monthFirst k) ⌝ }
 {
-    mask % (1 << (len + 1)) == 0
+    year::weekday(730119 + window::month_first(k))
 }
 
-// A cron frame's month: its own mask, and a wanted day that the month has.
-fn cron_mask(f: Cron, k: u64) -> u64
+// The days 1 to `len` of a mask.
+fn within(mask: u64, len: u64) -> u64
+    requires { ⌜ len ≤ 31 ⌝ }
+    ensures { λ r. ⌜ r ≡ maskFrom (bit mask) len 1 ⌝ }
+{
+    (mask >> 1) % (1 << len) * 2
+}
+
+// A cron frame's days of month k.
+fn cron_set(f: Cron, k: u64) -> u64
     requires { ⌜ k < 1200 ⌝ }
-    ensures { λ r. ⌜ SetOf (cronDay f) (cronDay f) k r ⌝ }
+    ensures { λ r. ⌜ r ≡ maskFrom (λ n. cronDay f (dayOf k n)) (monthDays k) 1 ⌝ }
 {
     if !masks::test(f.months, k % 12 + 1) {
         return 0;
     }
+    let len = window::month_days(k);
+    let week = limits::week_days(f.weekdays, first_weekday(k));
     if f.flags % 4 == 3 {
-        return 4294967294;
+        return within(f.days | week, len);
     }
-    if none_within(f.days, window::month_days(k)) {
-        return 0;
+    within(f.days & week, len)
+}
+
+// Every interval'th number, 0 the first.
+fn every(n: u64, interval: u64) -> bool
+    ensures { λ r. ⌜ r ≡ eqb (n % interval) 0 ⌝ }
+{
+    if interval == 0 {
+        return n == 0;
     }
-    f.days
+    n % interval == 0
 }
 
 // Every interval'th month of a rule whose periods are months.
@@ -56,126 +67,52 @@ fn month_counts(f: Rule, start: u64, k: u64) -> bool
         return true;
     }
     if k < start {
-        return rules::every(0, f.interval);
+        return every(0, f.interval);
     }
-    rules::every(k - start, f.interval)
+    every(k - start, f.interval)
 }
 
-// Month days are wanted, and the month has none of them.
-fn too_short(f: Rule, len: u64) -> bool
-    requires { ⌜ len ≤ 31 ⌝ }
-    ensures { λ r. ⌜ (r ≡ true → (n back : ℕ) → n ≤ len → back ≤ len → monthDayAllowed f n back ≡ false) ⌝ }
+// The day set of a rule's month.
+fn day_set(f: Rule, k: u64) -> u64
+    requires { ⌜ k < 1200 ⌝ }
+    ensures { λ r. ⌜ r ≡ maskFrom (λ n. inSet f (dayOf k n)) (monthDays k) 1 ⌝ }
 {
-    let wanted = f.days;
-    if days::no_limit(wanted) {
-        return false;
-    }
-    both(
-        none_within(wanted.front, len),
-        none_within(wanted.back, len),
+    let len = window::month_days(k);
+    let wanted = limits::days_allowed(f, len);
+    within(
+        wanted & limits::weekdays_allowed(f, first_weekday(k), len),
+        len,
     )
 }
 
-// The days of month k that a day's own part decides of; 0 where no day of it can be held.
-pub(crate) fn month_mask(f: &[u64; 16], k: u64) -> u64
-    requires { ⌜ (k < 1200) × (getD (now f) 12 0 ≡ startMonth (now f)) ⌝ }
-    ensures { λ r. ⌜ SetOf (dayPart (now (f .entry))) (dayHeld (now (f .entry))) k r ⌝ }
-{
-    if f[0] == 3 {
-        return cron_mask(numbers::cron_of(f), k);
-    }
-    if f[0] == 4 {
-        return rule_mask(numbers::rule_of(f), f[12], k);
-    }
-    0
-}
-
-// A rule frame's month: its interval, a wanted day that the month has, and the positions.
-fn rule_mask(f: Rule, start: u64, k: u64) -> u64
-    requires { ⌜ (k < 1200) × (start ≡ localDate (f .start / 1440) .month) ⌝ }
-    ensures { λ r. ⌜ SetOf (rulePart f) (ruleDay f) k r ⌝ }
+// A rule frame's days of month k, its start and a daily or weekly interval aside.
+fn rule_set(f: Rule, start: u64, k: u64) -> u64
+    requires { ⌜ k < 1200 ⌝ }
+    ensures { λ r. ⌜ r ≡ maskFrom (λ n. rulePart f start k (dayOf k n)) (monthDays k) 1 ⌝ }
 {
     if !month_counts(f, start, k) {
         return 0;
     }
-    let len = window::month_days(k);
-    if too_short(f, len) {
+    let set = day_set(f, k);
+    let positions = f.positions;
+    if limits::no_limit(positions) {
+        return set;
+    }
+    picks::picked(positions, set, window::month_days(k))
+}
+
+// A frame's days of month k, as far as they go by the month; `start` is the month of the start.
+pub fn month_set(f: &[u64; 16], start: u64, k: u64) -> u64
+    ensures { λ r. ⌜ r ≡ monthSet (now (f .entry)) start k ⌝ }
+{
+    if 1199 < k {
         return 0;
     }
-    let positions = f.positions;
-    if days::no_limit(positions) {
-        return plain_days(f, k);
+    if f[0] == 3 {
+        return cron_set(numbers::cron_of(f), k);
     }
-    places(f, k, len)
-}
-
-// The days of a month whose weekday is in the mask: the mask turned to the first day's weekday, week after week.
-fn week_days(weekdays: u64, first: u64) -> u64
-    requires { ⌜ first < 7 ⌝ }
-    ensures { λ r. ⌜ ((n : ℕ) → 1 ≤ n → n ≤ 31 → bit r n ≡ bit weekdays ((first + (n - 1)) % 7)) ⌝ }
-{
-    let week = weekdays % 128;
-    let turned = ((week * 129) >> first) % 128;
-    turned * 541098242
-}
-
-// Days of month k among which all of the rule's day set are: those of its weekdays, where it has no ordinals.
-fn plain_days(f: Rule, k: u64) -> u64
-    requires { ⌜ k < 1200 ⌝ }
-    ensures { λ r. ⌜ ((n : ℕ) → InMonth k n → inSet f (dayOf k n) ≡ true → bit r n ≡ true) ⌝ }
-{
-    if f.weekdays == 0 {
-        return 4294967294;
+    if f[0] == 4 {
+        return rule_set(numbers::rule_of(f), start, k);
     }
-    let ordinals = f.ordinals;
-    if !days::no_limit(ordinals) {
-        return 4294967294;
-    }
-    week_days(f.weekdays, year::weekday(730119 + window::month_first(k)))
-}
-
-// The day set of a rule's month.
-fn day_set(f: Rule, k: u64, len: u64) -> u64
-    requires { ⌜ (k < 1200) × (len ≡ monthDays k) ⌝ }
-    ensures { λ r. ⌜ r ≡ maskFrom (λ n. inSet f (dayOf k n)) len 1 ⌝ }
-{
-    let first = window::month_first(k);
-    let mut set = 0;
-    let mut n = 1;
-    while n <= len {
-        if rules::in_set(f, first + n - 1, n, len + 1 - n) {
-            set = masks::with_bit(set, n);
-        }
-        n = n + 1;
-    }
-    set
-}
-
-// The days of month k that the positions pick from its day set.
-fn places(f: Rule, k: u64, len: u64) -> u64
-    requires { ⌜ (k < 1200) × (len ≡ monthDays k) × (noLimit (f .positions) ≡ false) ⌝ }
-    ensures { λ r. ⌜ r ≡ maskFrom (λ n. placed f (dayOf k n)) len 1 ⌝ }
-{
-    let set = day_set(f, k, len);
-    let mut picked = 0;
-    let mut n = 1;
-    while n <= len {
-        if place_taken(f, set, n) {
-            picked = masks::with_bit(picked, n);
-        }
-        n = n + 1;
-    }
-    picked
-}
-
-// Whether day n of a day set has one of the rule's positions.
-fn place_taken(f: Rule, set: u64, n: u64) -> bool
-    requires { ⌜ n ≤ 31 ⌝ }
-    ensures { λ r. ⌜ r ≡ (bit (f .positions .front) (bitsBelow set (n + 1)) || bit (f .positions .back) (bitsFrom set n)) ⌝ }
-{
-    let positions = f.positions;
-    either(
-        masks::test(positions.front, masks::count_below(set, n + 1)),
-        masks::test(positions.back, masks::count_from(set, n)),
-    )
+    0
 }

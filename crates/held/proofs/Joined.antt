@@ -12,7 +12,7 @@ use Rattle.calendar.specs.Below.{anyOf}
 use Rattle.held.specs.Lists.{frameExcepts, anyHeld, anyExcepts}
 use Rattle.held.specs.Minutes.{frameHeld}
 use Rattle.held.specs.Minutes.{leastMinute, lastMinute}
-use Rattle.frames.proofs.Answers.{least-of, last-of}
+use Rattle.days.proofs.Answers.{least-of, last-of}
 
 -- what the first answer leaves is searched by the second test
 pub least-either : (t u both : ℕ → Bool) (low high b r : ℕ) → ((m : ℕ) → both m ≡ (t m || u m)) → Least t low high b → Least u low b r → Least both low high r

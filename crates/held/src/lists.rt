@@ -6,7 +6,7 @@ ghost use lib.ListN.{take};
 ghost use Rattle.calendar.proofs.Leasts.{Least, Last};
 ghost use Rattle.held.specs.Lists.{frameExcepts, anyHeld, anyExcepts, listHeld, firstOf, listLeast, listLast};
 use crate::minutes;
-use frames::ranges::at_most;
+use calendar::num::lesser;
 
 // The least minute that one of the first n frames holds: the best found so far bounds the later frames' search.
 fn any_least(fs: &[[u64; 16]; 64], n: usize, low: u64, high: u64) -> u64
@@ -107,7 +107,7 @@ fn rows(count: usize) -> usize
 pub fn list_least(fs: &[[u64; 16]; 64], count: usize, low: u64, high: u64) -> u64
     ensures { λ r. ⌜ r ≡ listLeast (firstOf count (now (fs .entry))) low high ⌝ }
 {
-    let end = at_most(high, 52596000);
+    let end = lesser(high, 52596000);
     if end <= low {
         return low;
     }
@@ -118,7 +118,7 @@ pub fn list_least(fs: &[[u64; 16]; 64], count: usize, low: u64, high: u64) -> u6
 pub fn list_last(fs: &[[u64; 16]; 64], count: usize, low: u64, high: u64) -> u64
     ensures { λ r. ⌜ r ≡ listLast (firstOf count (now (fs .entry))) low high ⌝ }
 {
-    let end = at_most(high, 52596000);
+    let end = lesser(high, 52596000);
     if end <= low {
         return low;
     }

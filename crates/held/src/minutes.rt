@@ -7,9 +7,9 @@ ghost use Rattle.held.specs.Minutes.{leastMinute, lastMinute};
 ghost use lib.ListN.{getD};
 use crate::one;
 use crate::times;
-use frames::ranges;
-use frames::ranges::at_least;
-use frames::ranges::at_most;
+use calendar::num::larger;
+use calendar::num::lesser;
+use days::ranges;
 
 // The least minute from low up to high, where `time` is the first time of day from low's own on.
 fn from_time(f: &[u64; 16], low: u64, time: u64, high: u64) -> u64
@@ -23,9 +23,9 @@ fn from_time(f: &[u64; 16], low: u64, time: u64, high: u64) -> u64
         return high;
     }
     if found == day {
-        return at_most(1440 * found + time, high);
+        return lesser(1440 * found + time, high);
     }
-    at_most(1440 * found + times::next_time(f, 0), high)
+    lesser(1440 * found + times::next_time(f, 0), high)
 }
 
 // The least minute from low up to high by day and time of day.
@@ -60,9 +60,9 @@ fn up_to_time(f: &[u64; 16], low: u64, high: u64, time: u64) -> u64
         return low;
     }
     if day < past {
-        return at_least(1440 * day + time, low);
+        return larger(1440 * day + time, low);
     }
-    at_least(1440 * (past - 1) + times::last_time(f, 1440), low)
+    larger(1440 * (past - 1) + times::last_time(f, 1440), low)
 }
 
 // One more than the greatest minute from low up to high by day and time of day.
@@ -106,7 +106,7 @@ fn cut(f: &[u64; 16], end: u64) -> u64
 pub fn least_minute(f: &[u64; 16], low: u64, high: u64) -> u64
     ensures { λ r. ⌜ r ≡ leastMinute (now (f .entry)) low high ⌝ }
 {
-    let end = at_most(high, 52596000);
+    let end = lesser(high, 52596000);
     if end <= low {
         return low;
     }
@@ -128,7 +128,7 @@ pub fn least_minute(f: &[u64; 16], low: u64, high: u64) -> u64
 pub fn last_minute(f: &[u64; 16], low: u64, high: u64) -> u64
     ensures { λ r. ⌜ r ≡ lastMinute (now (f .entry)) low high ⌝ }
 {
-    let end = at_most(high, 52596000);
+    let end = lesser(high, 52596000);
     if end <= low {
         return low;
     }

@@ -1,5 +1,4 @@
 -- What the proofs of load share.
-pub mod Goods
 pub mod Places
 pub mod Rounds
 pub mod ZoneRows

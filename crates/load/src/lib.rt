@@ -10,7 +10,6 @@ use line::Allowed;
 use place::Before;
 use plan::text;
 
-mod good;
 mod line;
 pub mod offsets;
 mod place;

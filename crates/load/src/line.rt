@@ -4,7 +4,6 @@ ghost use mathlib.Core.Path.{_≡_};
 ghost use Prim.Native.Nat.{_<_};
 ghost use Rattle.plan.specs.Taken.{numberGood, isEnd, allowed as allowedAt};
 ghost use Rattle.load.specs.Loads.{beforeOf, allowedOf};
-use crate::good;
 use crate::place;
 use crate::place::Before;
 use crate::place::Placed;

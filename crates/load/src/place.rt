@@ -4,10 +4,10 @@ ghost use mathlib.Core.Path.{_≡_};
 ghost use Prim.Native.Nat.{_≤_};
 ghost use Rattle.plan.specs.Taken.{start, zoned as zonedAt, lines as linesAt, frameGood, place as placeOf};
 ghost use Rattle.plan.specs.declared.Frame.{Frame};
-ghost use Rattle.zone.specs.Zone.{apart};
 ghost use Rattle.load.specs.Loads.{beforeOf, placedOf};
 use plan::Frame;
 use zone::Transition;
+use zone::num::distance;
 
 // The transitions so far, the least instant that the next may have, and the offset after them.
 pub(crate) struct Edge {
@@ -45,12 +45,6 @@ fn first(frame: Frame) -> Placed
         Frame::Excepted(_) => Placed::Not,
         Frame::End(_) => Placed::Not,
     }
-}
-
-fn distance(a: u64, b: u64) -> u64
-    ensures { λ r. ⌜ r ≡ apart a b ⌝ }
-{
-    if a < b { b - a } else { a - b }
 }
 
 // One transition more.

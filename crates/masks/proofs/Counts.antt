@@ -1,8 +1,8 @@
 -- How many bits are set: the count of the digits.
-use mathlib.Core.Bool.{Bool, cond}
+use mathlib.Core.Bool.{Bool, false, cond}
 use mathlib.Core.Path.{_≡_, refl, sym, ap, ap₂, _∙_, subst}
-use Prim.Native.Nat.{ℕ, zero, suc, _+_, _-_, _/_, _%_, _^_, _<_, _≤_}
-use native.Mathlib.Nat.{mod-lt, le-of-lt, pow-succ', min-eq-left, min-eq-right}
+use Prim.Native.Nat.{ℕ, zero, suc, _+_, _-_, _/_, _%_, _^_, _<_, _≤_, min}
+use native.Mathlib.Nat.{add-zero, mod-lt, le-of-lt, pow-succ', min-eq-left, min-eq-right}
 use native.Mathlib.Omega.{arith}
 use lib.Count.{ones, ones-step}
 use lib.Pow.{pow-pos, shr-lt}
@@ -77,3 +77,27 @@ bits-below-cut m n h =
 pub bits-below-whole : (m n : ℕ) → m < 2 ^ 64 → 64 ≤ n → ones m ≡ bitsBelow m n
 unfolding bitsBelow
 bits-below-whole m n h l = rw (min-eq-right l) (sym (count-ones 64 m h))
+
+-- one bit more
+pub bits-below-next : (m n : ℕ) → n < 64 → bitsBelow m (n + 1) ≡ bitsBelow m n + cond (bit m n) 1 0
+unfolding bitsBelow
+bits-below-next m n h =
+    let e : min (n + 1) 64 ≡ n + 1 = omega arith in
+    let f : min n 64 ≡ n = omega arith in
+    let z : 0 + n ≡ n = omega arith in
+    let a : countFrom (bit m) 1 (0 + n) ≡ cond (bit m n) 1 0 = ap (countFrom (bit m) 1) z ∙ add-zero (cond (bit m n) 1 0) in
+    rw (e, f) (count-parts (bit m) n 1 0 ∙ ap (λ (x : ℕ). countFrom (bit m) n 0 + x) a)
+
+-- the bits below n and those from n on
+pub bits-in-two : (m n : ℕ) → n ≤ 64 → bitsFrom m 0 ≡ bitsBelow m n + bitsFrom m n
+unfolding bitsBelow bitsFrom
+bits-in-two m n h =
+    let e : min n 64 ≡ n = omega arith in
+    let f : 64 ≡ n + (64 - n) = omega arith in
+    let z : 0 + n ≡ n = omega arith in
+    rw e (ap (λ (x : ℕ). countFrom (bit m) x 0) f ∙ count-parts (bit m) n (64 - n) 0 ∙ ap (λ (x : ℕ). countFrom (bit m) n 0 + countFrom (bit m) (64 - n) x) z)
+
+-- none below 1 where bit 0 is not set
+pub bits-below-one : (m : ℕ) → bit m 0 ≡ false → bitsBelow m 1 ≡ 0
+unfolding bitsBelow
+bits-below-one m z = rw z refl

@@ -1,13 +1,13 @@
--- A bit that is set, and the other bits as they were.
-use mathlib.Core.Bool.{Bool, true, false, cond, _||_, or-true, or-false}
+-- Masks joined and cut with each other; a bit that is set, and the other bits as they were.
+use mathlib.Core.Bool.{Bool, true, false, cond, _&&_, _||_, or-true, or-false}
 use mathlib.Core.Logic.{_≢_, dite}
 use mathlib.Core.Path.{_≡_, refl, sym, ap, _∙_}
-use Prim.Native.Nat.{ℕ, suc, _+_, _-_, _*_, _/_, _%_, _^_, _<_, _≤_, max}
+use Prim.Native.Nat.{ℕ, suc, _+_, _-_, _*_, _/_, _%_, _^_, _<_, _≤_, min, max}
 use native.Mathlib.Decide.{decLt}
 use native.Mathlib.Nat.{zero-mul, one-mul}
 use native.Mathlib.Omega.{arith}
 use borrow.Author.Tests.{lt-ltb, le-ltb, eq-eqb, ne-eqb, eqb-true, eqb-false}
-use lib.Bits.{bitAnd, bitOr, or-shr, or-step, or-add-and, or-lt, and-high}
+use lib.Bits.{bitAnd, bitOr, and-shr, and-step, or-shr, or-step, or-add-and, or-lt, and-high}
 use lib.Dec.{eqb}
 use lib.Pow.{pow-add, pow-lt}
 use Rattle.masks.specs.Masks.{bit, maskFrom, withBit}
@@ -32,6 +32,25 @@ bit-of-both a b i =
     ap (λ (z : ℕ). eqb (z % 2) 1) (or-shr a b i)
     ∙ ap (λ (z : ℕ). eqb z 1) e
     ∙ either-digit (x % 2) (y % 2) (omega arith) (omega arith)
+
+both-digits : (p q : ℕ) → p < 2 → q < 2 → eqb (min p q) 1 ≡ (eqb p 1 && eqb q 1)
+both-digits p q hp hq =
+    decided (eqb p 1)
+    (λ (t : eqb p 1 ≡ true). let e : min p q ≡ q = omega (arith, eqb-true p 1 t) in rw (t, e) refl)
+    (λ (f : eqb p 1 ≡ false).
+    let g : p ≡ 1 → ⊥ = eqb-false p 1 f in
+    let e : min p q ≡ 0 = omega arith in
+    rw (f, e) refl)
+
+-- the bits that two masks share
+pub bit-of-shared : (a b i : ℕ) → bit (bitAnd a b) i ≡ (bit a i && bit b i)
+bit-of-shared a b i =
+    let x = a / 2 ^ i in
+    let y = b / 2 ^ i in
+    let e : bitAnd x y % 2 ≡ min (x % 2) (y % 2) = omega (arith, and-step x y) in
+    ap (λ (z : ℕ). eqb (z % 2) 1) (and-shr a b i)
+    ∙ ap (λ (z : ℕ). eqb z 1) e
+    ∙ both-digits (x % 2) (y % 2) (omega arith) (omega arith)
 
 and-power : (m n : ℕ) → bitAnd m (2 ^ n) ≡ m / 2 ^ n % 2 * 2 ^ n
 and-power m n = let p : 2 ^ n ≡ 2 ^ (1 + n) - 2 ^ n = rw (pow-add 2 1 n) (omega arith) in ap (bitAnd m) p ∙ and-high m 1 n

@@ -6,7 +6,7 @@ use mathlib.Core.Path.{_≡_, sym, _∙_}
 use Prim.Native.Nat.{ℕ, _+_, _-_, _<_, _≤_, min}
 use native.Mathlib.Omega.{arith}
 use Rattle.calendar.proofs.Leasts.{Least, Last}
-use Rattle.frames.proofs.Answers.{least-of, last-of}
+use Rattle.days.proofs.Answers.{least-of, last-of}
 use Rattle.held.specs.Lists.{listHeld, listLeast, listLast}
 use Rattle.next.specs.Nearest.{Shifted, firstAfter, endAt, Later, Earlier, Earliest, Latest}
 use Rattle.next.proofs.Nearer.{nearest-start}

@@ -1,18 +1,25 @@
 // The next and the previous instant: stretch by stretch, the best found so far bounding the search in the others.
 ghost use mathlib.Core.Bool.{true};
 ghost use mathlib.Core.Path.{_≡_};
+ghost use Prim.Native.Nat.{min};
 ghost use Rattle.held.specs.Lists.{listHeld, firstOf};
 ghost use Rattle.zone.specs.Held.{offsetsOf};
 ghost use Rattle.zone.specs.Zone.{zoneGood};
 ghost use Rattle.next.specs.Instants.{InstantOf, NextOf, PreviousOf};
 ghost use Rattle.next.specs.Nearest.{Later, Earlier, Earliest, Latest};
 use crate::Found;
-use crate::num::lesser;
-use crate::num::places;
 use crate::stretches::stretch_next;
 use crate::stretches::stretch_previous;
+use calendar::num::lesser;
 use zone::Zone;
 use zone::stretch::end_before;
+
+// The transitions of a zone are the first `count` of 32.
+fn places(count: usize) -> usize
+    ensures { λ r. ⌜ r ≡ min count 32 ⌝ }
+{
+    if 32 < count { 32 } else { count }
+}
 
 // The earliest instant after `asked`, or 52,598,881.
 pub(crate) fn next_instant(fs: &[[u64; 16]; 64], count: usize, zone: Zone, asked: u64) -> u64

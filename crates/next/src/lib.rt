@@ -9,7 +9,6 @@ use zone::stretch;
 use zone::stretch::Instant;
 
 mod instants;
-mod num;
 mod stretches;
 
 // The instant that is asked for, or that there is none.

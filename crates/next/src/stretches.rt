@@ -3,9 +3,9 @@ ghost use mathlib.Core.Path.{_≡_};
 ghost use Prim.Native.Nat.{_≤_};
 ghost use Rattle.held.specs.Lists.{listHeld, firstOf};
 ghost use Rattle.next.specs.Nearest.{firstAfter, endAt, Later, Earlier, Shifted, Earliest, Latest};
-use crate::num::larger;
-use crate::num::less;
-use crate::num::lesser;
+use calendar::num::larger;
+use calendar::num::less;
+use calendar::num::lesser;
 use held::lists::list_last;
 use held::lists::list_least;
 

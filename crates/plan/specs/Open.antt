@@ -3,7 +3,7 @@ use Rattle.calendar.specs.Open.{opened as calendar-opened}
 use Rattle.lines.specs.Open.{opened as lines-opened}
 use Rattle.hex.specs.Open.{opened as hex-opened}
 use Rattle.zone.specs.Open.{opened as zone-opened}
-use Rattle.frames.specs.Open.{opened as frames-opened}
+use Rattle.days.specs.Open.{opened as days-opened}
 use Rattle.plan.specs.Allowed.{allowedFrom, framesAllowed}
 use Rattle.plan.specs.Fits.{frameFields, frameFits, frameWidths, pairsFrom, pairsAt}
 use Rattle.plan.specs.Plan.{frameHolds, frameExcepts, planHeld, changesOf, offsetOf, planZone}
@@ -13,5 +13,5 @@ use Rattle.plan.specs.Taken.{cronGood, placesGood, frequencyGood, ruleGo
 use Rattle.plan.specs.Text.{moved, movedFrame, frameLine, planText, cronFrom, ruleFrom, frameFrom, bytesFrame, lineFrame}
 
 unfoldable pub opened : Unit {0}
-unfolding calendar-opened lines-opened hex-opened zone-opened frames-opened allowedFrom framesAllowed frameFields frameFits frameWidths pairsFrom pairsAt frameHolds frameExcepts planHeld changesOf offsetOf planZone lineRead rowOf cronGood placesGood frequencyGood ruleGood frameGood place numberGood allowed loadFrom load moved movedFrame frameLine planText cronFrom ruleFrom frameFrom bytesFrame lineFrame
+unfolding calendar-opened lines-opened hex-opened zone-opened days-opened allowedFrom framesAllowed frameFields frameFits frameWidths pairsFrom pairsAt frameHolds frameExcepts planHeld changesOf offsetOf planZone lineRead rowOf cronGood placesGood frequencyGood ruleGood frameGood place numberGood allowed loadFrom load moved movedFrame frameLine planText cronFrom ruleFrom frameFrom bytesFrame lineFrame
 opened = tt

@@ -5,7 +5,7 @@ ghost use Rattle.zone.specs.Held.{offsetsOf};
 ghost use Rattle.zone.specs.Limits.{startOf, addedTo};
 ghost use Rattle.zone.specs.Stretches.{stretchLocal};
 ghost use Rattle.held.specs.Lists.{firstOf, listLeast, listLast};
-ghost use Rattle.frames.specs.Search.{nthDay};
+ghost use Rattle.days.specs.Search.{nthDay};
 ghost use Rattle.probe.specs.Probed.{limitNumber, zoneAnswer, instantAnswer};
 use zone::Transition;
 use zone::Zone;
@@ -106,5 +106,5 @@ pub extern "C" fn probe_list_last(fs: &[[u64; 16]; 64], count: usize, low: u64, 
 pub extern "C" fn probe_nth_day(f: &[u64; 16], count: u64, low: u64) -> u64
     ensures { λ r. ⌜ r ≡ nthDay (now (f .entry)) count low ⌝ }
 {
-    frames::count::nth_day(f, count, low)
+    days::count::nth_day(f, count, low)
 }

@@ -4,7 +4,7 @@ ghost use Rattle.zone.specs.Zone.{offsetAt};
 ghost use Rattle.zone.specs.Held.{offsetsOf};
 
 pub mod limits;
-mod num;
+pub mod num;
 pub mod stretch;
 
 // From instant `at` on the offset is `offset`.

@@ -36,7 +36,7 @@ pub fn start(offset: u64) -> Added
         count: 0,
         changes: [Transition { at: 0, offset: 0 }; 32],
     };
-    if num::lies_within(720, 2280, offset) {
+    if calendar::num::lies_within(720, 2280, offset) {
         return Added {
             limit: Limit::Taken,
             zone,
@@ -52,8 +52,8 @@ pub fn start(offset: u64) -> Added
 fn in_range(change: Transition) -> bool
     ensures { λ r. ⌜ r ≡ inRange change ⌝ }
 {
-    if num::lies_within(1440, 52597439, change.at) {
-        return num::lies_within(720, 2280, change.offset);
+    if calendar::num::lies_within(1440, 52597439, change.at) {
+        return calendar::num::lies_within(720, 2280, change.offset);
     }
     false
 }
@@ -87,7 +87,7 @@ pub fn limit_of(zone: Zone, change: Transition) -> Limit
         return Limit::Distance;
     }
     let before = stretch::stretch_offset(zone, 32);
-    if num::lies_within(1, 180, num::distance(before, change.offset)) {
+    if calendar::num::lies_within(1, 180, num::distance(before, change.offset)) {
         return Limit::Taken;
     }
     Limit::Change

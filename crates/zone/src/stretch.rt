@@ -19,7 +19,7 @@ pub enum Instant {
 pub fn end_before(before: u64, change: Transition) -> u64
     ensures { λ r. ⌜ r ≡ boundary before change ⌝ }
 {
-    let offset = num::larger(before, change.offset);
+    let offset = calendar::num::larger(before, change.offset);
     if 52598880 < change.at {
         return 52596000;
     }

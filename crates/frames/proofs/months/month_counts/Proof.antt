@@ -5,7 +5,7 @@ use Prim.Native.Nat.{_-_}
 use native.Mathlib.Omega.{arith}
 use borrow.Author.Needs.{needs}
 use borrow.Author.Tests.{eq-eqb, ne-eqb}
-use Rattle.frames.specs.Steps.{monthCounts}
+use Rattle.frames.specs.Months.{monthCounts}
 use Rattle.frames.proofs.months.month_counts.Statement.{statement}
 use Rattle.frames.proofs.months.month_counts.Tie as tie
 

@@ -8,13 +8,13 @@ use Rattle.calendar.proofs.Leasts.{last-same}
 use denote.Ref.{now}
 use Rattle.held.specs.Minutes.{minutePart, frameHeld}
 use Rattle.held.specs.Minutes.{lastMinute}
-use Rattle.frames.proofs.Answers.{last-is, last-empty}
+use Rattle.days.proofs.Answers.{last-is, last-empty}
 use Rattle.held.proofs.Cuts.{extra-held, cut-last, cut-last-empty}
 use Rattle.held.proofs.minutes.last_minute.Statement.{statement}
 use Rattle.held.proofs.minutes.last_minute.Tie as tie
 
-at-most-requires : tie.Need-at-most-requires
-at-most-requires c κs = search needs
+lesser-requires : tie.Need-lesser-requires
+lesser-requires c κs = search needs
 
 returns : tie.Need-returns
 unfolding lastMinute
@@ -22,7 +22,7 @@ returns c =
     let s = c .before .before in
     let a = s .args in
     let l = now (a .f) in
-    rw (← c .before .at-most .ensures) (last-empty (frameHeld l) (a .low) (c .before .at-most .result) (c .if1 .taken))
+    rw (← c .before .lesser .ensures) (last-empty (frameHeld l) (a .low) (c .before .lesser .result) (c .if1 .taken))
 
 element-copy-out-if2 : tie.Need-element-copy-out-if2
 element-copy-out-if2 c = search needs
@@ -39,8 +39,8 @@ returns-2 c =
     let s = c .before .before .before .before .before .before in
     let a = s .args in
     let l = now (a .f) in
-    rw (← c .before .before .before .before .before .at-most .ensures)
-    (last-is (frameHeld l) (a .low) (c .before .before .before .before .before .at-most .result) _ (omega arith) (last-same (λ m. eqb m (getD l 1 0)) (frameHeld l) (a .low) (c .before .before .before .before .before .at-most .result) _ (λ j u v. sym (extra-held l (c .before .before .if2 .taken) j)) (c .last-one .ensures)))
+    rw (← c .before .before .before .before .before .lesser .ensures)
+    (last-is (frameHeld l) (a .low) (c .before .before .before .before .before .lesser .result) _ (omega arith) (last-same (λ m. eqb m (getD l 1 0)) (frameHeld l) (a .low) (c .before .before .before .before .before .lesser .result) _ (λ j u v. sym (extra-held l (c .before .before .if2 .taken) j)) (c .last-one .ensures)))
 
 cut-requires : tie.Need-cut-requires
 cut-requires c κs = search needs
@@ -51,8 +51,8 @@ returns-3 c =
     let s = c .before .before .before .before .before .before in
     let a = s .args in
     let l = now (a .f) in
-    rw (← c .before .before .before .before .before .at-most .ensures)
-    (last-is (frameHeld l) (a .low) (c .before .before .before .before .before .at-most .result) _ (omega arith) (cut-last-empty (minutePart l) (frameHeld l) (a .low) (c .before .before .before .before .before .at-most .result) (c .before .cut .result) 0 (c .before .cut .ensures) (omega arith) (c .if3 .taken)))
+    rw (← c .before .before .before .before .before .lesser .ensures)
+    (last-is (frameHeld l) (a .low) (c .before .before .before .before .before .lesser .result) _ (omega arith) (cut-last-empty (minutePart l) (frameHeld l) (a .low) (c .before .before .before .before .before .lesser .result) (c .before .cut .result) 0 (c .before .cut .ensures) (omega arith) (c .if3 .taken)))
 
 last-part-requires : tie.Need-last-part-requires
 last-part-requires c κs = search needs
@@ -63,14 +63,14 @@ returns-4 c =
     let s = c .before .before .before .before .before .before .before in
     let a = s .args in
     let l = now (a .f) in
-    rw (← c .before .before .before .before .before .before .at-most .ensures)
-    (last-is (frameHeld l) (a .low) (c .before .before .before .before .before .before .at-most .result) _ (omega arith) (cut-last (minutePart l) (frameHeld l) (a .low) (c .before .before .before .before .before .before .at-most .result) _ _ (c .before .before .cut .ensures) (c .last-part .ensures)))
+    rw (← c .before .before .before .before .before .before .lesser .ensures)
+    (last-is (frameHeld l) (a .low) (c .before .before .before .before .before .before .lesser .result) _ (omega arith) (cut-last (minutePart l) (frameHeld l) (a .low) (c .before .before .before .before .before .before .lesser .result) _ _ (c .before .before .cut .ensures) (c .last-part .ensures)))
 
 pub last-minute-spec : {M : Type 1} → statement M
 last-minute-spec =
     tie.close
     (tie.spec
-    at-most-requires
+    lesser-requires
     returns
     element-copy-out-if2
     element-copy-out-last-one

@@ -8,13 +8,13 @@ use Rattle.calendar.proofs.Leasts.{least-same}
 use denote.Ref.{now}
 use Rattle.held.specs.Minutes.{minutePart, frameHeld}
 use Rattle.held.specs.Minutes.{leastMinute}
-use Rattle.frames.proofs.Answers.{least-is, least-empty}
+use Rattle.days.proofs.Answers.{least-is, least-empty}
 use Rattle.held.proofs.Cuts.{extra-held, cut-found, cut-none, cut-empty}
 use Rattle.held.proofs.minutes.least_minute.Statement.{statement}
 use Rattle.held.proofs.minutes.least_minute.Tie as tie
 
-at-most-requires : tie.Need-at-most-requires
-at-most-requires c κs = search needs
+lesser-requires : tie.Need-lesser-requires
+lesser-requires c κs = search needs
 
 returns : tie.Need-returns
 unfolding leastMinute
@@ -22,7 +22,7 @@ returns c =
     let s = c .before .before in
     let a = s .args in
     let l = now (a .f) in
-    rw (← c .before .at-most .ensures) (least-empty (frameHeld l) (a .low) (c .before .at-most .result) (c .if1 .taken))
+    rw (← c .before .lesser .ensures) (least-empty (frameHeld l) (a .low) (c .before .lesser .result) (c .if1 .taken))
 
 element-copy-out-if2 : tie.Need-element-copy-out-if2
 element-copy-out-if2 c = search needs
@@ -39,8 +39,8 @@ returns-2 c =
     let s = c .before .before .before .before .before .before in
     let a = s .args in
     let l = now (a .f) in
-    rw (← c .before .before .before .before .before .at-most .ensures)
-    (least-is (frameHeld l) (a .low) (c .before .before .before .before .before .at-most .result) _ (omega arith) (least-same (λ m. eqb m (getD l 1 0)) (frameHeld l) (a .low) (c .before .before .before .before .before .at-most .result) _ (λ j u v. sym (extra-held l (c .before .before .if2 .taken) j)) (c .least-one .ensures)))
+    rw (← c .before .before .before .before .before .lesser .ensures)
+    (least-is (frameHeld l) (a .low) (c .before .before .before .before .before .lesser .result) _ (omega arith) (least-same (λ m. eqb m (getD l 1 0)) (frameHeld l) (a .low) (c .before .before .before .before .before .lesser .result) _ (λ j u v. sym (extra-held l (c .before .before .if2 .taken) j)) (c .least-one .ensures)))
 
 cut-requires : tie.Need-cut-requires
 cut-requires c κs = search needs
@@ -51,8 +51,8 @@ returns-3 c =
     let s = c .before .before .before .before .before .before in
     let a = s .args in
     let l = now (a .f) in
-    rw (← c .before .before .before .before .before .at-most .ensures)
-    (least-is (frameHeld l) (a .low) (c .before .before .before .before .before .at-most .result) _ (omega arith) (cut-empty (minutePart l) (frameHeld l) (a .low) (c .before .before .before .before .before .at-most .result) (c .before .cut .result) 0 (c .before .cut .ensures) (omega arith) (c .if3 .taken)))
+    rw (← c .before .before .before .before .before .lesser .ensures)
+    (least-is (frameHeld l) (a .low) (c .before .before .before .before .before .lesser .result) _ (omega arith) (cut-empty (minutePart l) (frameHeld l) (a .low) (c .before .before .before .before .before .lesser .result) (c .before .cut .result) 0 (c .before .cut .ensures) (omega arith) (c .if3 .taken)))
 
 least-part-requires : tie.Need-least-part-requires
 least-part-requires c κs = search needs
@@ -63,8 +63,8 @@ returns-4 c =
     let s = c .before .before .before .before .before .before .before .before in
     let a = s .args in
     let l = now (a .f) in
-    rw (← c .before .before .before .before .before .before .before .at-most .ensures)
-    (least-is (frameHeld l) (a .low) (c .before .before .before .before .before .before .before .at-most .result) _ (omega arith) (cut-found (minutePart l) (frameHeld l) (a .low) (c .before .before .before .before .before .before .before .at-most .result) _ _ (c .before .before .before .cut .ensures) (c .before .least-part .ensures) (c .if4 .taken)))
+    rw (← c .before .before .before .before .before .before .before .lesser .ensures)
+    (least-is (frameHeld l) (a .low) (c .before .before .before .before .before .before .before .lesser .result) _ (omega arith) (cut-found (minutePart l) (frameHeld l) (a .low) (c .before .before .before .before .before .before .before .lesser .result) _ _ (c .before .before .before .cut .ensures) (c .before .least-part .ensures) (c .if4 .taken)))
 
 returns-5 : tie.Need-returns-5
 unfolding leastMinute
@@ -72,14 +72,14 @@ returns-5 c =
     let s = c .before .before .before .before .before .before .before .before in
     let a = s .args in
     let l = now (a .f) in
-    rw (← c .before .before .before .before .before .before .before .at-most .ensures)
-    (least-is (frameHeld l) (a .low) (c .before .before .before .before .before .before .before .at-most .result) _ (omega arith) (cut-none (minutePart l) (frameHeld l) (a .low) (c .before .before .before .before .before .before .before .at-most .result) _ _ (c .before .before .before .cut .ensures) (omega arith) (c .before .least-part .ensures) (c .if4 .left)))
+    rw (← c .before .before .before .before .before .before .before .lesser .ensures)
+    (least-is (frameHeld l) (a .low) (c .before .before .before .before .before .before .before .lesser .result) _ (omega arith) (cut-none (minutePart l) (frameHeld l) (a .low) (c .before .before .before .before .before .before .before .lesser .result) _ _ (c .before .before .before .cut .ensures) (omega arith) (c .before .least-part .ensures) (c .if4 .left)))
 
 pub least-minute-spec : {M : Type 1} → statement M
 least-minute-spec =
     tie.close
     (tie.spec
-    at-most-requires
+    lesser-requires
     returns
     element-copy-out-if2
     element-copy-out-least-one

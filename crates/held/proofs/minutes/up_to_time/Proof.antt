@@ -7,7 +7,7 @@ use denote.Ref.{now}
 use Rattle.held.specs.Minutes.{timePart}
 use Rattle.frames.specs.Numbers.{dayHeld}
 use Rattle.calendar.proofs.Leasts.{Last}
-use Rattle.frames.proofs.Answers.{last-day-last}
+use Rattle.days.proofs.Answers.{last-day-last}
 use Rattle.held.proofs.Pairs.{days-last-none, last-today, last-earlier, last-time}
 use Rattle.held.proofs.minutes.up_to_time.Statement.{statement}
 use Rattle.held.proofs.minutes.up_to_time.Tie as tie
@@ -28,14 +28,14 @@ returns c = let a = c .before .before .args in
     let d = last-day-last l (a .low / 1440) end (omega arith) (omega arith) in
     days-last-none (dayHeld l) (timePart l) (a .low) (a .high) end _ (omega arith) (omega arith) (rw (c .before .last-day .ensures) d) (c .if1 .taken)
 
-mul-at-least : tie.Need-mul-at-least
-mul-at-least c = search needs
+mul-larger : tie.Need-mul-larger
+mul-larger c = search needs
 
-add-at-least : tie.Need-add-at-least
-add-at-least c = search needs
+add-larger : tie.Need-add-larger
+add-larger c = search needs
 
-at-least-requires : tie.Need-at-least-requires
-at-least-requires c κs = search needs
+larger-requires : tie.Need-larger-requires
+larger-requires c κs = search needs
 
 returns-2 : tie.Need-returns-2
 returns-2 c = let s = c .before .before .before .before in
@@ -46,23 +46,23 @@ returns-2 c = let s = c .before .before .before .before in
     let past = c .before .before .before .last-day in
     let d : Last (dayHeld l) (a .low / 1440) end (past .result) = rw (past .ensures) (last-day-last l (a .low / 1440) end (omega arith) (omega arith)) in
     let e : past .result - 1 ≡ (a .high - 1) / 1440 = omega (arith, d .to) in
-    rw (c .at-least .ensures)
+    rw (c .larger .ensures)
     (last-today (dayHeld l) (timePart l) (a .low) (a .high) ((a .high - 1) / 1440) (a .time) (p .0) refl (sym (ap (dayHeld l) e) ∙ d .passes (omega arith)) (p .2) (p .3))
 
-sub-at-least : tie.Need-sub-at-least
-sub-at-least c = search needs
+sub-larger : tie.Need-sub-larger
+sub-larger c = search needs
 
-mul-at-least-2 : tie.Need-mul-at-least-2
-mul-at-least-2 c = search needs
+mul-larger-2 : tie.Need-mul-larger-2
+mul-larger-2 c = search needs
 
 last-time-requires : tie.Need-last-time-requires
 last-time-requires c κs = search needs
 
-add-at-least-2 : tie.Need-add-at-least-2
-add-at-least-2 c = search needs
+add-larger-2 : tie.Need-add-larger-2
+add-larger-2 c = search needs
 
-at-least-requires-2 : tie.Need-at-least-requires-2
-at-least-requires-2 c κs = search needs
+larger-requires-2 : tie.Need-larger-requires-2
+larger-requires-2 c κs = search needs
 
 returns-3 : tie.Need-returns-3
 returns-3 c = let s = c .before .before .before .before .before in
@@ -73,7 +73,7 @@ returns-3 c = let s = c .before .before .before .before .before in
     let past = c .before .before .before .before .last-day in
     let d : Last (dayHeld l) (a .low / 1440) end (past .result) = rw (past .ensures) (last-day-last l (a .low / 1440) end (omega arith) (omega arith)) in
     let time = c .before .last-time .ensures in
-    rw (c .at-least2 .ensures)
+    rw (c .larger2 .ensures)
     (last-earlier (dayHeld l) (timePart l) (a .low) (a .high) (past .result) _ (p .0) d (omega arith) (omega arith) time
     (last-time (dayHeld l) (timePart l) (a .high - 1440 * ((a .high - 1) / 1440)) (a .time) _ (omega arith) (p .2) (p .3) time))
 
@@ -85,13 +85,13 @@ up-to-time-spec =
     add-last-day
     last-day-requires
     returns
-    mul-at-least
-    add-at-least
-    at-least-requires
+    mul-larger
+    add-larger
+    larger-requires
     returns-2
-    sub-at-least
-    mul-at-least-2
+    sub-larger
+    mul-larger-2
     last-time-requires
-    add-at-least-2
-    at-least-requires-2
+    add-larger-2
+    larger-requires-2
     returns-3)

@@ -1,0 +1,32 @@
+// Numbers compared, and differences that stop at 0.
+ghost use mathlib.Core.Path.{_≡_};
+ghost use Prim.Native.Nat.{_-_, min, max};
+ghost use Rattle.calendar.specs.Below.{within};
+
+pub fn larger(a: u64, b: u64) -> u64
+    ensures { λ r. ⌜ r ≡ max a b ⌝ }
+{
+    if a < b { b } else { a }
+}
+
+pub fn lesser(a: u64, b: u64) -> u64
+    ensures { λ r. ⌜ r ≡ min a b ⌝ }
+{
+    if b < a { b } else { a }
+}
+
+pub fn less(a: u64, b: u64) -> u64
+    ensures { λ r. ⌜ r ≡ a - b ⌝ }
+{
+    if a < b { 0 } else { a - b }
+}
+
+// Both ends counted.
+pub fn lies_within(low: u64, high: u64, n: u64) -> bool
+    ensures { λ r. ⌜ r ≡ within low high n ⌝ }
+{
+    if n < low {
+        return false;
+    }
+    n <= high
+}

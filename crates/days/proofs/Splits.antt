@@ -1,0 +1,64 @@
+-- The day test in its two parts: the set of a month's days, and what goes by the day.
+use mathlib.Core.Bool.{Bool, true, false, cond, _&&_, and-false, and-true}
+use mathlib.Core.List.{List}
+use mathlib.Core.Path.{_≡_, refl, sym, ap, _∙_}
+use Prim.Native.Nat.{ℕ, _/_}
+use native.Mathlib.Omega.{arith}
+use borrow.Author.Tests.{eqb-true}
+use lib.Dec.{leb, eqb}
+use lib.ListN.{getD}
+use Rattle.calendar.specs.Window.{localDate}
+use Rattle.masks.specs.Masks.{bit}
+use Rattle.frames.proofs.MonthDays.{month-of-day}
+use Rattle.frames.proofs.MonthSets.{month-bit}
+use Rattle.frames.specs.Cron.{cronDay}
+use Rattle.frames.specs.Months.{monthCounts, rulePart, monthPart, monthSet, dayOf, InMonth}
+use Rattle.frames.specs.Numbers.{cronOf, ruleOf, dayHeld, startMonth}
+use Rattle.frames.specs.Rule.{inSet, placed, period, counts, ruleDay}
+use Rattle.frames.specs.declared.Rule.{Rule}
+use Rattle.days.specs.Steps.{dayCounts, dayPart, SetOf}
+
+-- a rule's interval: that of days or weeks with the day, that of months with the month
+by-frequency : (f : Rule) (start k n : ℕ) → start ≡ localDate (f .start / 1440) .month → InMonth k n → (a b : Bool) → eqb (f .frequency) 1 ≡ a → eqb (f .frequency) 2 ≡ b
+    → counts f (dayOf k n) ≡ (dayCounts f (dayOf k n) && monthCounts f start k)
+unfolding counts dayCounts monthCounts period
+by-frequency f start k n e i true b p q = simp (p, and-true)
+by-frequency f start k n e i false true p q = simp (p, q, and-true)
+by-frequency f start k n e i false false p q = simp (p, q, month-of-day k n i, e)
+
+counts-split : (f : Rule) (start k n : ℕ) → start ≡ localDate (f .start / 1440) .month → InMonth k n → counts f (dayOf k n) ≡ (dayCounts f (dayOf k n) && monthCounts f start k)
+counts-split f start k n e i = by-frequency f start k n e i (eqb (f .frequency) 1) (eqb (f .frequency) 2) refl refl
+
+rearranged : (a b c d : Bool) → (c && d && (a && b)) ≡ (a && (b && c && d))
+rearranged false b c d = and-false (c && d)
+rearranged true false c d = and-false (c && d)
+rearranged true true c d = and-true (c && d)
+
+module _ (l : List ℕ) (k n : ℕ) (i : InMonth k n) where
+  rule-split : (rulePart (ruleOf l) (startMonth l) k (dayOf k n) && (leb (getD l 3 0 / 1440) (dayOf k n) && dayCounts (ruleOf l) (dayOf k n))) ≡ ruleDay (ruleOf l) (dayOf k n)
+  unfolding ruleDay rulePart startMonth
+  rule-split =
+      let f : Rule = ruleOf l in
+      let d : ℕ = dayOf k n in
+      rearranged (leb (f .start / 1440) d) (dayCounts f d) (monthCounts f (localDate (f .start / 1440) .month) k) (inSet f d && placed f d)
+      ∙ ap (λ (b : Bool). leb (f .start / 1440) d && (b && (inSet f d && placed f d))) (sym (counts-split f (localDate (f .start / 1440) .month) k n refl i))
+
+  by-kind : (a b : Bool) → eqb (getD l 0 0) 3 ≡ a → eqb (getD l 0 0) 4 ≡ b → (monthPart l (startMonth l) k (dayOf k n) && dayPart l (dayOf k n)) ≡ dayHeld l (dayOf k n)
+  unfolding monthPart dayPart dayHeld
+  by-kind true false p q = rw (p, q) (and-true (cronDay (cronOf l) (dayOf k n)))
+  by-kind true true p q = absurd (omega (arith, eqb-true (getD l 0 0) 3 p, eqb-true (getD l 0 0) 4 q))
+  by-kind false true p q = rw (p, q) rule-split
+  by-kind false false p q = rw (p, q) refl
+
+  pub held-split : (monthPart l (startMonth l) k (dayOf k n) && dayPart l (dayOf k n)) ≡ dayHeld l (dayOf k n)
+  held-split = by-kind (eqb (getD l 0 0) 3) (eqb (getD l 0 0) 4) refl refl
+
+-- the set of a month's days and the days' own part make up the day test
+pub month-set-of : (l : List ℕ) (k set : ℕ) → set ≡ monthSet l (startMonth l) k → SetOf (dayPart l) (dayHeld l) k set
+unfolding monthSet
+month-set-of l k set e =
+    record {
+      decides = λ n i.
+          ap (λ (b : Bool). b && dayPart l (dayOf k n)) (ap (λ (x : ℕ). bit x n) e ∙ month-bit (λ j. monthPart l (startMonth l) k (dayOf k j)) k n i)
+          ∙ held-split l k n i;
+    }

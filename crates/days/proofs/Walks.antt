@@ -1,0 +1,175 @@
+-- The steps of the search over days: where they go on, and what they have passed.
+use mathlib.Core.Bool.{Bool, false}
+use mathlib.Core.List.{List}
+use mathlib.Core.Logic.{dite}
+use mathlib.Core.Path.{_≡_, sym, ap, _∙_}
+use Prim.Native.Nat.{ℕ, _+_, _-_, _<_, _≤_}
+use native.Mathlib.Decide.{decLt}
+use native.Mathlib.Omega.{arith}
+use lib.ListN.{getD}
+use Rattle.calendar.proofs.Leasts.{Least, Last, least-none, least-after, last-none, last-before}
+use Rattle.calendar.proofs.Windows.{month-first-next, month-first-mono, month-first-end, month-days-range}
+use Rattle.calendar.specs.Window.{monthFirst, monthDays, localDate}
+use Rattle.masks.proofs.Bits.{bit-of-zero}
+use Rattle.frames.specs.Months.{dayOf, InMonth}
+use Rattle.frames.specs.Numbers.{dayHeld}
+use Rattle.days.specs.Steps.{dayPart, SetOf, Holds, Ready, Up, Down, Passed}
+use Rattle.days.proofs.Answers.{holds-at}
+
+-- the month after a month that is not the last starts where that ends
+month-before : (k : ℕ) → k < 1200 → 1 ≤ k → monthFirst k ≡ monthFirst (k - 1) + monthDays (k - 1)
+month-before k h l = let e : k - 1 + 1 ≡ k = omega arith in ap monthFirst (sym e) ∙ month-first-next (k - 1) (omega arith)
+
+-- a day of an earlier month is an earlier day
+earlier-month : (j k d : ℕ) → Holds j d → j < k → k < 1200 → d < monthFirst k
+earlier-month j k d h l m =
+    omega (arith, h .to, month-first-next j (h .month), month-first-mono (j + 1) k (omega arith) (omega arith))
+
+-- a month ends within the window
+pub month-end-top : (k : ℕ) → k < 1200 → monthFirst k + monthDays k ≤ 36525
+month-end-top k h = omega (arith, month-first-next k h, month-first-mono (k + 1) 1200 (omega arith) (omega arith), month-first-end)
+
+-- day n of month k lies in it
+pub holds-day : (k n d : ℕ) → InMonth k n → d ≡ dayOf k n → Holds k d
+holds-day k n d i e = record { month = i .month; from = omega (arith, e); to = omega (arith, e, i .low, i .high) }
+
+module _ (l : List ℕ) (k d : ℕ) (u : Up l k d) where
+  -- in the walk's last month its last day comes
+  pub up-last : getD l 13 0 ≤ k → getD l 14 0 < monthFirst k + monthDays k
+  up-last h =
+      dite (decLt (getD l 13 0) k)
+      (λ (g : getD l 13 0 < k). omega (arith, earlier-month (getD l 13 0) k (getD l 14 0) (u .ready .ends) g (u .here .month)))
+      (λ (g : getD l 13 0 < k → ⊥).
+      let e : getD l 13 0 ≡ k = omega arith in
+      omega (arith, u .ready .ends .to, ap monthFirst e, ap monthDays e))
+
+  -- before it the walk goes on to the next month
+  pub up-month : k < getD l 13 0 → Up l (k + 1) (monthFirst (k + 1))
+  up-month h =
+      let m : k + 1 < 1200 = omega (arith, u .ready .ends .month) in
+      record {
+        ready = u .ready;
+        here = record { month = m; from = omega arith; to = omega (arith, month-days-range (k + 1) m .0) };
+        before = omega (arith, u .ready .ends .from, month-first-mono (k + 1) (getD l 13 0) (omega arith) (omega (arith, u .ready .ends .month)));
+      }
+
+  -- a later day of the month
+  pub up-on : (n next : ℕ) → InMonth k n → d ≡ dayOf k n → d ≤ next → next ≤ getD l 14 0 → n + (next - d) ≤ monthDays k → Up l k next
+  up-on n next i e f b t =
+      record {
+        ready = u .ready;
+        here = record { month = i .month; from = omega (arith, e); to = omega (arith, e, i .low) };
+        before = b;
+      }
+
+module _ (l : List ℕ) (k d : ℕ) (w : Down l k d) where
+  pub down-last : k ≤ getD l 13 0 → monthFirst k ≤ getD l 14 0
+  down-last h = omega (arith, w .ready .ends .from, month-first-mono k (getD l 13 0) h (omega (arith, w .ready .ends .month)))
+
+  pub down-end : getD l 13 0 < k → monthFirst k ≡ monthFirst (k - 1) + monthDays (k - 1)
+  down-end h = month-before k (w .here .month) (omega arith)
+
+  pub down-month : getD l 13 0 < k → Down l (k - 1) (monthFirst (k - 1) + monthDays (k - 1) - 1)
+  down-month h =
+      let m : k - 1 < 1200 = omega (arith, w .here .month) in
+      let r = month-days-range (k - 1) m .0 in
+      record {
+        ready = w .ready;
+        here = record { month = m; from = omega (arith, r); to = omega (arith, r) };
+        after = omega (arith, down-end h, earlier-month (getD l 13 0) k (getD l 14 0) (w .ready .ends) h (w .here .month));
+      }
+
+  pub down-on : (n back : ℕ) → InMonth k n → d ≡ dayOf k n → back ≤ d → getD l 14 0 ≤ back → d - back < n → Down l k back
+  down-on n back i e f b t =
+      record {
+        ready = w .ready;
+        here = record { month = i .month; from = omega (arith, e); to = omega (arith, e, i .high) };
+        after = b;
+      }
+
+-- the walk's last day lies in the window, and so do the days up to it
+pub last-day-top : (l : List ℕ) → Ready l → getD l 14 0 < 36525
+last-day-top l r = omega (arith, r .ends .to, month-end-top (getD l 13 0) (r .ends .month))
+
+pub up-at : (l : List ℕ) (d : ℕ) → Ready l → d ≤ getD l 14 0 → Up l (localDate d .month) d
+up-at l d r h = record { ready = r; here = holds-at d (omega (arith, last-day-top l r)) .0; before = h }
+
+pub down-at : (l : List ℕ) (d : ℕ) → Ready l → getD l 14 0 ≤ d → d < 36525 → Down l (localDate d .month) d
+down-at l d r h t = record { ready = r; here = holds-at d t .0; after = h }
+
+-- what the numbers of a step stay below
+pub small : (k n d : ℕ) → InMonth k n → d ≡ dayOf k n → (d < 36525) × (n ≤ 31)
+small k n d i e =
+    let t : monthFirst k + monthDays k ≤ 36525 = month-end-top k (i .month) in
+    (omega (arith, e, i .low, i .high), omega (arith, i .high, month-days-range k (i .month) .1))
+
+-- the days of a month after and before one of them
+pub day-on : (k n on : ℕ) → InMonth k n → n + on ≤ monthDays k → InMonth k (n + on)
+day-on k n on i t = record { month = i .month; low = omega (arith, i .low); high = t }
+
+pub day-back : (k n back : ℕ) → InMonth k n → back < n → InMonth k (n - back)
+day-back k n back i t = record { month = i .month; low = omega arith; high = omega (arith, i .high) }
+
+pub first-day : (k : ℕ) → k < 1200 → InMonth k 1
+first-day k h = record { month = h; low = omega arith; high = omega (arith, month-days-range k h .0) }
+
+pub last-day : (k : ℕ) → k < 1200 → InMonth k (monthDays k)
+last-day k h = record { month = h; low = omega (arith, month-days-range k h .0); high = omega arith }
+
+-- no day of a month with an empty set is held
+pub none-held : (l : List ℕ) (k : ℕ) → k < 1200 → SetOf (dayPart l) (dayHeld l) k 0 → (j : ℕ) → monthFirst k ≤ j → j < monthFirst k + monthDays k → dayHeld l j ≡ false
+none-held l k m s j a b =
+    let n : ℕ = j - monthFirst k + 1 in
+    let i : InMonth k n = record { month = m; low = omega arith; high = omega arith } in
+    let e : dayOf k n ≡ j = omega arith in
+    rw (← e) (sym (s .decides n i) ∙ simp bit-of-zero)
+
+-- a day that is not held is passed, with those after it that the interval leaves out
+module _ (held : ℕ → Bool) (d next end : ℕ) (f : held d ≡ false) (p : Passed held (d + 1) next) (b : d ≤ end) (t : end < 36525) where
+  none-on : (j : ℕ) → d ≤ j → j < next → j ≤ end → held j ≡ false
+  none-on j u v w =
+      dite (decLt d j) (λ (g : d < j). p .none j (omega arith) v (omega arith))
+      (λ (g : d < j → ⊥). let e : j ≡ d = omega arith in rw e f)
+
+  pub passed-on : (r : ℕ) → next ≤ end → Least held next (end + 1) r → Least held d (end + 1) r
+  passed-on r h a = least-after held d next (end + 1) r (omega (arith, p .rises)) (λ j u v. none-on j u v (omega arith)) a
+
+  pub all-passed : end < next → Least held d (end + 1) (end + 1)
+  all-passed h = least-none held d (end + 1) (omega arith) (λ j u v. none-on j u (omega arith) (omega arith))
+
+-- a month with an empty set is passed
+pub month-passed : (l : List ℕ) (k d : ℕ) → Up l k d → SetOf (dayPart l) (dayHeld l) k 0 → (r : ℕ) → Least (dayHeld l) (monthFirst (k + 1)) (getD l 14 0 + 1) r → Least (dayHeld l) d (getD l 14 0 + 1) r
+month-passed l k d u z r a =
+    let n = month-first-next k (u .here .month) in
+    least-after (dayHeld l) d (monthFirst (k + 1)) (getD l 14 0 + 1) r (omega (arith, n, u .here .to))
+    (λ j b c. none-held l k (u .here .month) z j (omega (arith, u .here .from)) (omega (arith, n))) a
+
+pub last-month-passed : (l : List ℕ) (k d : ℕ) → Up l k d → SetOf (dayPart l) (dayHeld l) k 0 → getD l 13 0 ≤ k → Least (dayHeld l) d (getD l 14 0 + 1) (getD l 14 0 + 1)
+last-month-passed l k d u z h =
+    least-none (dayHeld l) d (getD l 14 0 + 1) (omega (arith, u .before))
+    (λ j b c. none-held l k (u .here .month) z j (omega (arith, u .here .from)) (omega (arith, up-last l k d u h)))
+
+-- the same downwards
+module _ (held : ℕ → Bool) (low past d : ℕ) (f : held d ≡ false) (p : Passed held past d) (b : low ≤ d) (t : d < 36525) where
+  none-back : (j : ℕ) → past ≤ j → j < d + 1 → held j ≡ false
+  none-back j u v =
+      dite (decLt j d) (λ (g : j < d). p .none j u g (omega arith))
+      (λ (g : j < d → ⊥). let e : j ≡ d = omega arith in rw e f)
+
+  pub passed-back : (r : ℕ) → low < past → Last held low (past - 1 + 1) r → Last held low (d + 1) r
+  passed-back r h a = last-before held low (past - 1 + 1) (d + 1) r (omega (arith, p .rises)) (λ j u v. none-back j (omega arith) v) a
+
+  pub all-passed-back : past ≤ low → Last held low (d + 1) low
+  all-passed-back h = last-none held low (d + 1) (omega arith) (λ j u v. none-back j (omega arith) v)
+
+pub month-passed-back : (l : List ℕ) (k d : ℕ) → Down l k d → SetOf (dayPart l) (dayHeld l) k 0 → getD l 13 0 < k
+    → (r : ℕ) → Last (dayHeld l) (getD l 14 0) (monthFirst (k - 1) + monthDays (k - 1)) r → Last (dayHeld l) (getD l 14 0) (d + 1) r
+month-passed-back l k d w z h r a =
+    let n = down-end l k d w h in
+    last-before (dayHeld l) (getD l 14 0) (monthFirst (k - 1) + monthDays (k - 1)) (d + 1) r (omega (arith, n, w .here .from))
+    (λ j b c. none-held l k (w .here .month) z j (omega (arith, n)) (omega (arith, w .here .to))) a
+
+pub last-month-passed-back : (l : List ℕ) (k d : ℕ) → Down l k d → SetOf (dayPart l) (dayHeld l) k 0 → k ≤ getD l 13 0 → Last (dayHeld l) (getD l 14 0) (d + 1) (getD l 14 0)
+last-month-passed-back l k d w z h =
+    last-none (dayHeld l) (getD l 14 0) (d + 1) (omega (arith, w .after))
+    (λ j b c. none-held l k (w .here .month) z j (omega (arith, down-last l k d w h)) (omega (arith, w .here .to)))

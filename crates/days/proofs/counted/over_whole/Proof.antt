@@ -1,0 +1,18 @@
+-- By 0 nothing is whole.
+use mathlib.Core.Path.{sym}
+use native.Mathlib.Nat.{mod-zero}
+use borrow.Author.Needs.{needs}
+use Rattle.days.proofs.counted.over_whole.Statement.{statement}
+use Rattle.days.proofs.counted.over_whole.Tie as tie
+
+returns : tie.Need-returns
+returns c = rw (c .if1 .taken) (sym (mod-zero _))
+
+rem-result : tie.Need-rem-result
+rem-result c = search needs
+
+returns-2 : tie.Need-returns-2
+returns-2 c = search needs
+
+pub over-whole-spec : {M : Type 1} → statement M
+over-whole-spec = tie.close (tie.spec returns rem-result returns-2)

@@ -1,0 +1,55 @@
+-- The day test in two parts: what goes by the month, a set of its days, and what goes by the day; and where a walk over days stands.
+use mathlib.Core.Bool.{Bool, true, false, cond, _&&_, _||_}
+use mathlib.Core.List.{List}
+use mathlib.Core.Path.{_≡_}
+use Prim.Native.Nat.{ℕ, _+_, _/_, _<_, _≤_}
+use lib.Dec.{leb, eqb}
+use lib.ListN.{getD, set}
+use Rattle.calendar.specs.Window.{monthFirst, monthDays}
+use Rattle.masks.specs.Masks.{bit}
+use Rattle.frames.specs.Months.{dayOf, InMonth}
+use Rattle.frames.specs.Numbers.{ruleOf, startMonth}
+use Rattle.frames.specs.Rule.{counts}
+use Rattle.frames.specs.declared.Rule.{Rule}
+
+-- the interval of a daily or weekly rule
+unfoldable pub dayCounts : Rule → ℕ → Bool
+dayCounts f d = cond (eqb (f .frequency) 1 || eqb (f .frequency) 2) (counts f d) true
+
+-- what goes by the day: a rule's start, and that interval
+unfoldable pub dayPart : List ℕ → ℕ → Bool
+dayPart l d = cond (eqb (getD l 0 0) 4) (leb (getD l 3 0 / 1440) d && dayCounts (ruleOf l) d) true
+
+-- a set of days of month k that, with each day's own part, makes up a day test
+pub record SetOf (part held : ℕ → Bool) (k set : ℕ) : Type 0 where
+  pub decides : (n : ℕ) → InMonth k n → (bit set n && part (dayOf k n)) ≡ held (dayOf k n)
+
+-- day d lies in month k of the window
+pub record Holds (k d : ℕ) : Type 0 where
+  pub month : k < 1200
+  pub from : monthFirst k ≤ d
+  pub to : d < monthFirst k + monthDays k
+
+-- a frame made ready for a walk: the start's month, the last month of the walk and its last day stand after the frame's own numbers
+unfoldable pub readied : List ℕ → ℕ → ℕ → List ℕ
+readied l month day = set (set (set l 12 (startMonth l)) 13 month) 14 day
+
+pub record Ready (l : List ℕ) : Type 0 where
+  pub begun : getD l 12 0 ≡ startMonth l
+  pub ends : Holds (getD l 13 0) (getD l 14 0)
+
+-- where a walk up stands, at day d of month k, not past its last day; and one down
+pub record Up (l : List ℕ) (k d : ℕ) : Type 0 where
+  pub ready : Ready l
+  pub here : Holds k d
+  pub before : d ≤ getD l 14 0
+
+pub record Down (l : List ℕ) (k d : ℕ) : Type 0 where
+  pub ready : Ready l
+  pub here : Holds k d
+  pub after : getD l 14 0 ≤ d
+
+-- no day from low up to high is held
+pub record Passed (held : ℕ → Bool) (low high : ℕ) : Type 0 where
+  pub rises : low ≤ high
+  pub none : (j : ℕ) → low ≤ j → j < high → j < 36525 → held j ≡ false

@@ -1,0 +1,65 @@
+-- A month that does not count has no day; any other its day set, or the days that the positions pick from it.
+use mathlib.Core.Bool.{Bool, true, false}
+use mathlib.Core.Path.{_≡_, refl, sym, ap, _∙_}
+use Prim.Native.Nat.{ℕ}
+use native.Mathlib.Omega.{arith}
+use borrow.Author.Tests.{not-true, not-false}
+use Rattle.calendar.specs.Window.{monthDays}
+use Rattle.masks.proofs.MaskFroms.{bit-below-mask, mask-from-below}
+use Rattle.masks.specs.Masks.{bit}
+use Rattle.frames.specs.Rule.{inSet}
+use Rattle.frames.specs.Months.{rulePart, dayOf}
+use Rattle.frames.proofs.MonthDays.{days-at-most}
+use Rattle.frames.proofs.MonthSets.{month-none, month-same, free-part, picked-part}
+use borrow.Author.Needs.{needs}
+use Rattle.frames.proofs.months.rule_set.Statement.{statement}
+use Rattle.frames.proofs.months.rule_set.Tie as tie
+
+month-counts-requires : tie.Need-month-counts-requires
+month-counts-requires c κs = search needs
+
+returns : tie.Need-returns
+unfolding rulePart
+returns c = let a = c .before .before .args in
+    let m = sym (c .before .month-counts .ensures) ∙ not-true (c .before .month-counts .result) (c .if1 .taken) in
+    month-none (λ n. rulePart (a .f) (a .start) (a .k) (dayOf (a .k) n)) (a .k) (λ n i. simp m)
+
+day-set-requires : tie.Need-day-set-requires
+day-set-requires c κs = search needs
+
+no-limit-requires : tie.Need-no-limit-requires
+no-limit-requires c κs = search needs
+
+returns-2 : tie.Need-returns-2
+returns-2 c = let a = c .before .before .before .before .before .before .args in
+    let m = c .before .before .before .before .before .month-counts in
+    c .before .before .before .day-set .ensures
+    ∙ month-same _ (λ n. rulePart (a .f) (a .start) (a .k) (dayOf (a .k) n)) (a .k) _ refl
+    (λ n i. free-part (a .f) (a .start) (a .k) n (sym (m .ensures) ∙ not-false (m .result) (c .before .before .before .before .if1 .left)) i (sym (c .before .no-limit .ensures) ∙ c .if2 .taken))
+
+month-days-requires : tie.Need-month-days-requires
+month-days-requires c κs = search needs
+
+picked-requires : tie.Need-picked-requires
+picked-requires c κs = let a = c .before .before .before .before .before .before .before .args in
+    (omega (arith, c .month-days .ensures, days-at-most (a .k)), ap (λ (x : ℕ). bit x 0) (c .before .before .before .before .day-set .ensures) ∙ bit-below-mask (λ n. inSet (a .f) (dayOf (a .k) n)) _ 1 0 (omega arith), rw (c .month-days .ensures, c .before .before .before .before .day-set .ensures) (mask-from-below (λ n. inSet (a .f) (dayOf (a .k) n)) (monthDays (a .k)) 1))
+
+returns-3 : tie.Need-returns-3
+returns-3 c = let a = c .before .before .before .before .before .before .before .before .args in
+    let m = c .before .before .before .before .before .before .before .month-counts in
+    c .picked .ensures
+    ∙ month-same _ (λ n. rulePart (a .f) (a .start) (a .k) (dayOf (a .k) n)) (a .k) _ (c .before .month-days .ensures)
+    (λ n i. picked-part (a .f) (a .start) (a .k) n (sym (m .ensures) ∙ not-false (m .result) (c .before .before .before .before .before .before .if1 .left)) i _ (c .before .before .before .before .before .day-set .ensures) (sym (c .before .before .before .no-limit .ensures) ∙ c .before .before .if2 .left))
+
+pub rule-set-spec : {M : Type 1} → statement M
+rule-set-spec =
+    tie.close
+    (tie.spec
+    month-counts-requires
+    returns
+    day-set-requires
+    no-limit-requires
+    returns-2
+    month-days-requires
+    picked-requires
+    returns-3)

@@ -1,0 +1,35 @@
+-- What a frame says of a whole month: all of its day test but a rule's start and a daily or weekly interval.
+use mathlib.Core.Bool.{Bool, true, false, cond, _&&_, _||_}
+use mathlib.Core.List.{List}
+use Prim.Native.Nat.{ℕ, _+_, _-_, _%_, _<_, _≤_}
+use lib.Dec.{eqb}
+use lib.ListN.{getD}
+use Rattle.calendar.specs.Window.{monthFirst, monthDays}
+use Rattle.masks.specs.Masks.{maskFrom}
+use Rattle.frames.specs.Cron.{cronDay}
+use Rattle.frames.specs.Numbers.{cronOf, ruleOf}
+use Rattle.frames.specs.Rule.{inSet, placed}
+use Rattle.frames.specs.declared.Rule.{Rule}
+
+-- the interval of a rule that is neither daily nor weekly goes by the month
+unfoldable pub monthCounts : Rule → ℕ → ℕ → Bool
+monthCounts f start k = cond (eqb (f .frequency) 1 || eqb (f .frequency) 2) true (eqb ((k - start) % f .interval) 0)
+
+unfoldable pub rulePart : Rule → ℕ → ℕ → ℕ → Bool
+rulePart f start k d = monthCounts f start k && (inSet f d && placed f d)
+
+unfoldable pub monthPart : List ℕ → ℕ → ℕ → ℕ → Bool
+monthPart l start k d = cond (eqb (getD l 0 0) 3) (cronDay (cronOf l) d) (cond (eqb (getD l 0 0) 4) (rulePart (ruleOf l) start k d) false)
+
+-- day n of month k
+abbrev pub dayOf : ℕ → ℕ → ℕ
+dayOf k n = monthFirst k + (n - 1)
+
+pub record InMonth (k n : ℕ) : Type 0 where
+  pub month : k < 1200
+  pub low : 1 ≤ n
+  pub high : n ≤ monthDays k
+
+-- the days of month k that pass, as a mask; `start` is the month of the start
+unfoldable pub monthSet : List ℕ → ℕ → ℕ → ℕ
+monthSet l start k = maskFrom (λ n. monthPart l start k (dayOf k n)) (monthDays k) 1

@@ -1,0 +1,2 @@
+-- What the proofs of good share.
+pub mod Goods

@@ -1,0 +1,34 @@
+// A cron frame's fields and flags.
+ghost use mathlib.Core.Path.{_≡_};
+ghost use Rattle.plan.specs.Taken.{cronGood};
+use crate::bits::flag_good;
+use crate::bits::mask_good;
+use frames::Cron;
+use frames::truth::both;
+
+pub(crate) fn cron_good(f: Cron) -> bool
+    ensures { λ r. ⌜ r ≡ cronGood f ⌝ }
+{
+    if !mask_good(f.minutes, 0, 59) {
+        return false;
+    }
+    if !mask_good(f.hours, 0, 23) {
+        return false;
+    }
+    if !mask_good(f.days, 1, 31) {
+        return false;
+    }
+    if !mask_good(f.months, 1, 12) {
+        return false;
+    }
+    if !mask_good(f.weekdays, 0, 6) {
+        return false;
+    }
+    if 4 <= f.flags {
+        return false;
+    }
+    both(
+        flag_good(f.flags, 0, f.days, 4294967294),
+        flag_good(f.flags, 1, f.weekdays, 127),
+    )
+}

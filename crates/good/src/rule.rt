@@ -1,0 +1,104 @@
+// A rule frame's frequency, limits, interval and start.
+ghost use mathlib.Core.Path.{_≡_};
+ghost use Prim.Native.Nat.{_/_, _<_};
+ghost use Rattle.frames.specs.Rule.{ruleDay};
+ghost use Rattle.plan.specs.Taken.{ordinalsGood, placesGood, frequencyGood, ruleGood};
+use crate::bits::only_bits;
+use crate::bits::pair_good;
+use calendar::num::lies_within;
+use days::ranges;
+use frames::Rule;
+use frames::limits::no_limit;
+use frames::truth::both;
+use plan::Frame;
+use plan::text;
+
+// Five bytes, the top bit of each clear.
+fn ordinals_good(g: u64) -> bool
+    ensures { λ r. ⌜ r ≡ ordinalsGood g ⌝ }
+{
+    if 1099511627776 <= g {
+        return false;
+    }
+    if 128 <= g / 4294967296 % 256 {
+        return false;
+    }
+    if 128 <= g / 16777216 % 256 {
+        return false;
+    }
+    if 128 <= g / 65536 % 256 {
+        return false;
+    }
+    if 128 <= g / 256 % 256 {
+        return false;
+    }
+    g % 256 < 128
+}
+
+fn places_good(f: Rule) -> bool
+    ensures { λ r. ⌜ r ≡ placesGood f ⌝ }
+{
+    if !only_bits(f.weekdays, 0, 6) {
+        return false;
+    }
+    if !pair_good(f.days) {
+        return false;
+    }
+    let ordinals = f.ordinals;
+    if !ordinals_good(ordinals.front) {
+        return false;
+    }
+    if !ordinals_good(ordinals.back) {
+        return false;
+    }
+    pair_good(f.positions)
+}
+
+fn frequency_good(f: Rule) -> bool
+    ensures { λ r. ⌜ r ≡ frequencyGood f ⌝ }
+{
+    let free = no_limit(f.ordinals);
+    let placeless = no_limit(f.positions);
+    let dayless = no_limit(f.days);
+    if f.frequency == 1 {
+        return both(free, placeless);
+    }
+    if f.frequency == 2 {
+        return both(0 < f.weekdays, both(dayless, both(free, placeless)));
+    }
+    if f.frequency == 3 {
+        return !both(f.weekdays == 0, both(dayless, free));
+    }
+    false
+}
+
+// Whether a rule holds the day of its start.
+fn start_held(f: Rule) -> bool
+    requires { ⌜ f .start < 52596000 ⌝ }
+    ensures { λ r. ⌜ r ≡ ruleDay f (f .start / 1440) ⌝ }
+{
+    let day = f.start / 1440;
+    let row = text::row_of(Frame::Rule(f));
+    ranges::least_day(&row, day, day + 1) == day
+}
+
+pub(crate) fn rule_good(f: Rule) -> bool
+    ensures { λ r. ⌜ r ≡ ruleGood f ⌝ }
+{
+    if !frequency_good(f) {
+        return false;
+    }
+    if !places_good(f) {
+        return false;
+    }
+    if !lies_within(1, 999, f.interval) {
+        return false;
+    }
+    if 52596000 <= f.last {
+        return false;
+    }
+    if f.last < f.start {
+        return false;
+    }
+    start_held(f)
+}
