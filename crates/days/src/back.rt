@@ -33,7 +33,7 @@ fn month_back(f: &[u64; 16], k: u64) -> u64
     requires { ⌜ Down (now f) k (monthFirst k + monthDays k - 1) ⌝ }
     ensures { λ r. ⌜ Last (dayHeld (now (f .entry))) (getD (now (f .entry)) 14 0) (monthFirst k + monthDays k) r ⌝ }
 {
-    let set = parts::month_mask(f, k);
+    let set = parts::passing_mask(f, k);
     if set != 0 {
         let len = window::month_days(k);
         return day_back(f, k, set, window::month_first(k) + len - 1, len);

@@ -33,7 +33,7 @@ fn month_step(f: &[u64; 16], k: u64) -> u64
     requires { ⌜ Up (now f) k (monthFirst k) ⌝ }
     ensures { λ r. ⌜ Least (dayHeld (now (f .entry))) (monthFirst k) (getD (now (f .entry)) 14 0 + 1) r ⌝ }
 {
-    let set = parts::month_mask(f, k);
+    let set = parts::passing_mask(f, k);
     if set != 0 {
         return day_step(f, k, set, window::month_days(k), window::month_first(k), 1);
     }

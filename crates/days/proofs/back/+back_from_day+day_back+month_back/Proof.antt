@@ -29,6 +29,7 @@ use Rattle.calendar.proofs.window.month_days.Reads as month-days-reads
 use Rattle.calendar.proofs.window.month_first.Reads as month-first-reads
 use Rattle.days.proofs.counted.counted_before.Reads as counted-before-reads
 use Rattle.days.proofs.parts.month_mask.Reads as month-mask-reads
+use Rattle.days.proofs.parts.passing_mask.Reads as passing-mask-reads
 use Rattle.days.proofs.parts.day_test.Reads as day-test-reads
 use Rattle.days.proofs.back.+back_from_day+day_back+month_back.{statement}
 use Rattle.days.proofs.back.+back_from_day+day_back+month_back.Tie.{close}
@@ -450,9 +451,9 @@ day-back-returns-4 t c = let s = c .before .before .before .before .before .befo
     let p = s .pre .1 in
     passed-back (dayHeld (now (a .f))) (getD (now (a .f)) 14 0) _ (a .d) (sym (c .before .before .before .before .before .before .day-test .ensures) ∙ c .before .before .before .before .before .if1 .left) (c .before .before .before .before .counted-before .ensures) (p .0 .after) (small (a .k) (a .n) (a .d) (p .1) (p .2) .0) _ (c .before .before .if2 .left) (c .back-from-day .ensures)
 
-month-back-month-mask-requires : (t : ℕ) → month-back-lts.Need-month-mask-requires (
-  month-mask-reads.Asked,
-  month-mask-reads.Learnt,
+month-back-passing-mask-requires : (t : ℕ) → month-back-lts.Need-passing-mask-requires (
+  passing-mask-reads.Asked,
+  passing-mask-reads.Learnt,
   month-days-reads.Asked,
   month-days-reads.Learnt,
   month-first-reads.Asked,
@@ -462,11 +463,11 @@ month-back-month-mask-requires : (t : ℕ) → month-back-lts.Need-month-mask-re
   month-back-below t,
   month-back.Post,
 ) (month-back-at t) month-back.Post
-month-back-month-mask-requires t c κs = c .pre .1 .ready .begun
+month-back-passing-mask-requires t c κs = c .pre .1 .ready .begun
 
 month-back-month-days-requires : (t : ℕ) → month-back-lts.Need-month-days-requires (
-  month-mask-reads.Asked,
-  month-mask-reads.Learnt,
+  passing-mask-reads.Asked,
+  passing-mask-reads.Learnt,
   month-days-reads.Asked,
   month-days-reads.Learnt,
   month-first-reads.Asked,
@@ -479,8 +480,8 @@ month-back-month-days-requires : (t : ℕ) → month-back-lts.Need-month-days-re
 month-back-month-days-requires t c κs = search needs
 
 month-back-month-first-requires : (t : ℕ) → month-back-lts.Need-month-first-requires (
-  month-mask-reads.Asked,
-  month-mask-reads.Learnt,
+  passing-mask-reads.Asked,
+  passing-mask-reads.Learnt,
   month-days-reads.Asked,
   month-days-reads.Learnt,
   month-first-reads.Asked,
@@ -493,8 +494,8 @@ month-back-month-first-requires : (t : ℕ) → month-back-lts.Need-month-first-
 month-back-month-first-requires t c κs = search needs
 
 month-back-add-day-back : (t : ℕ) → month-back-lts.Need-add-day-back (
-  month-mask-reads.Asked,
-  month-mask-reads.Learnt,
+  passing-mask-reads.Asked,
+  passing-mask-reads.Learnt,
   month-days-reads.Asked,
   month-days-reads.Learnt,
   month-first-reads.Asked,
@@ -508,8 +509,8 @@ month-back-add-day-back t c = let s = c .before .before .before .before in
     omega (arith, c .month-first .ensures, c .before .month-days .ensures, month-end-top (s .args .k) (s .pre .1 .here .month))
 
 month-back-sub-day-back : (t : ℕ) → month-back-lts.Need-sub-day-back (
-  month-mask-reads.Asked,
-  month-mask-reads.Learnt,
+  passing-mask-reads.Asked,
+  passing-mask-reads.Learnt,
   month-days-reads.Asked,
   month-days-reads.Learnt,
   month-first-reads.Asked,
@@ -523,8 +524,8 @@ month-back-sub-day-back t c = let s = c .before .before .before .before in
     omega (arith, c .before .month-days .ensures, month-days-range (s .args .k) (s .pre .1 .here .month) .0)
 
 month-back-day-back-requires : (t : ℕ) → month-back-lts.Need-day-back-requires (
-  month-mask-reads.Asked,
-  month-mask-reads.Learnt,
+  passing-mask-reads.Asked,
+  passing-mask-reads.Learnt,
   month-days-reads.Asked,
   month-days-reads.Learnt,
   month-first-reads.Asked,
@@ -541,12 +542,12 @@ month-back-day-back-requires t c κs = let s = c .before .before .before .before
     let n = c .before .month-days .ensures in
     let r = month-days-range (a .k) (p .here .month) .0 in (
       omega (arith, s .pre .0, e, n, r),
-      (rw (e, n) p, rw n (last-day (a .k) (p .here .month)), omega (arith, e, n, r), c .before .before .before .month-mask .ensures),
+      (rw (e, n) p, rw n (last-day (a .k) (p .here .month)), omega (arith, e, n, r), c .before .before .before .passing-mask .ensures),
     )
 
 month-back-returns : (t : ℕ) → month-back-lts.Need-returns (
-  month-mask-reads.Asked,
-  month-mask-reads.Learnt,
+  passing-mask-reads.Asked,
+  passing-mask-reads.Learnt,
   month-days-reads.Asked,
   month-days-reads.Learnt,
   month-first-reads.Asked,
@@ -565,8 +566,8 @@ month-back-returns t c = let s = c .before .before .before .before .before in
     rw q at (c .day-back .ensures)
 
 month-back-element-copy-out-if2 : (t : ℕ) → month-back-lts.Need-element-copy-out-if2 (
-  month-mask-reads.Asked,
-  month-mask-reads.Learnt,
+  passing-mask-reads.Asked,
+  passing-mask-reads.Learnt,
   month-days-reads.Asked,
   month-days-reads.Learnt,
   month-first-reads.Asked,
@@ -579,8 +580,8 @@ month-back-element-copy-out-if2 : (t : ℕ) → month-back-lts.Need-element-copy
 month-back-element-copy-out-if2 t c = search needs
 
 month-back-element-copy-out-result : (t : ℕ) → month-back-lts.Need-element-copy-out-result (
-  month-mask-reads.Asked,
-  month-mask-reads.Learnt,
+  passing-mask-reads.Asked,
+  passing-mask-reads.Learnt,
   month-days-reads.Asked,
   month-days-reads.Learnt,
   month-first-reads.Asked,
@@ -593,8 +594,8 @@ month-back-element-copy-out-result : (t : ℕ) → month-back-lts.Need-element-c
 month-back-element-copy-out-result t c = search needs
 
 month-back-returns-2 : (t : ℕ) → month-back-lts.Need-returns-2 (
-  month-mask-reads.Asked,
-  month-mask-reads.Learnt,
+  passing-mask-reads.Asked,
+  passing-mask-reads.Learnt,
   month-days-reads.Asked,
   month-days-reads.Learnt,
   month-first-reads.Asked,
@@ -607,13 +608,13 @@ month-back-returns-2 : (t : ℕ) → month-back-lts.Need-returns-2 (
 month-back-returns-2 t c = let s = c .before .before .before .before .before in
     let a = s .args in
     let p = s .pre .1 in
-    let z : SetOf (dayPart (now (a .f))) (dayHeld (now (a .f))) (a .k) 0 = rw (c .before .before .before .if1 .left) at (c .before .before .before .before .month-mask .ensures) in
+    let z : SetOf (dayPart (now (a .f))) (dayHeld (now (a .f))) (a .k) 0 = rw (c .before .before .before .if1 .left) at (c .before .before .before .before .passing-mask .ensures) in
     let q : monthFirst (a .k) + monthDays (a .k) - 1 + 1 ≡ monthFirst (a .k) + monthDays (a .k) = omega (arith, month-days-range (a .k) (p .here .month) .0) in
     rw q at (last-month-passed-back (now (a .f)) (a .k) (monthFirst (a .k) + monthDays (a .k) - 1) p z (c .before .if2 .taken))
 
 month-back-sub-month-back : (t : ℕ) → month-back-lts.Need-sub-month-back (
-  month-mask-reads.Asked,
-  month-mask-reads.Learnt,
+  passing-mask-reads.Asked,
+  passing-mask-reads.Learnt,
   month-days-reads.Asked,
   month-days-reads.Learnt,
   month-first-reads.Asked,
@@ -626,8 +627,8 @@ month-back-sub-month-back : (t : ℕ) → month-back-lts.Need-sub-month-back (
 month-back-sub-month-back t c = search needs
 
 month-back-month-back-requires : (t : ℕ) → month-back-lts.Need-month-back-requires (
-  month-mask-reads.Asked,
-  month-mask-reads.Learnt,
+  passing-mask-reads.Asked,
+  passing-mask-reads.Learnt,
   month-days-reads.Asked,
   month-days-reads.Learnt,
   month-first-reads.Asked,
@@ -646,8 +647,8 @@ month-back-month-back-requires t c κs = let s = c .before .before .before .befo
     )
 
 month-back-returns-3 : (t : ℕ) → month-back-lts.Need-returns-3 (
-  month-mask-reads.Asked,
-  month-mask-reads.Learnt,
+  passing-mask-reads.Asked,
+  passing-mask-reads.Learnt,
   month-days-reads.Asked,
   month-days-reads.Learnt,
   month-first-reads.Asked,
@@ -660,7 +661,7 @@ month-back-returns-3 : (t : ℕ) → month-back-lts.Need-returns-3 (
 month-back-returns-3 t c = let s = c .before .before .before .before .before in
     let a = s .args in
     let p = s .pre .1 in
-    let z : SetOf (dayPart (now (a .f))) (dayHeld (now (a .f))) (a .k) 0 = rw (c .before .before .before .if1 .left) at (c .before .before .before .before .month-mask .ensures) in
+    let z : SetOf (dayPart (now (a .f))) (dayHeld (now (a .f))) (a .k) 0 = rw (c .before .before .before .if1 .left) at (c .before .before .before .before .passing-mask .ensures) in
     let q : monthFirst (a .k) + monthDays (a .k) - 1 + 1 ≡ monthFirst (a .k) + monthDays (a .k) = omega (arith, month-days-range (a .k) (p .here .month) .0) in
     rw q at (month-passed-back (now (a .f)) (a .k) (monthFirst (a .k) + monthDays (a .k) - 1) p z (c .before .if2 .left) _ (c .month-back .ensures))
 
@@ -717,8 +718,8 @@ pub +back-from-day+day-back+month-back-spec : {M : Type 1} → statement M
     (day-back-back-from-day-requires t)
     (day-back-returns-4 t))
     λ t. month-back-lts.spec (
-      month-mask-reads.Asked,
-      month-mask-reads.Learnt,
+      passing-mask-reads.Asked,
+      passing-mask-reads.Learnt,
       month-days-reads.Asked,
       month-days-reads.Learnt,
       month-first-reads.Asked,
@@ -730,7 +731,7 @@ pub +back-from-day+day-back+month-back-spec : {M : Type 1} → statement M
     )
     (month-back-at t)
     month-back.Post
-    (month-back-month-mask-requires t)
+    (month-back-passing-mask-requires t)
     (month-back-month-days-requires t)
     (month-back-month-first-requires t)
     (month-back-add-day-back t)

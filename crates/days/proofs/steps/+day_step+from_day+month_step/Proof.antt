@@ -29,6 +29,7 @@ use Rattle.calendar.proofs.window.month_days.Reads as month-days-reads
 use Rattle.calendar.proofs.window.month_first.Reads as month-first-reads
 use Rattle.days.proofs.counted.counted_from.Reads as counted-from-reads
 use Rattle.days.proofs.parts.month_mask.Reads as month-mask-reads
+use Rattle.days.proofs.parts.passing_mask.Reads as passing-mask-reads
 use Rattle.days.proofs.parts.day_test.Reads as day-test-reads
 use Rattle.days.proofs.steps.+day_step+from_day+month_step.{statement}
 use Rattle.days.proofs.steps.+day_step+from_day+month_step.Tie.{close}
@@ -487,9 +488,9 @@ from-day-returns-3 t c = let s = c .before .before .before .before .before .befo
     let z : SetOf (dayPart (now (a .f))) (dayHeld (now (a .f))) k 0 = rw (c .before .before .before .if1 .left) at (c .before .before .before .before .month-mask .ensures) in
     month-passed (now (a .f)) k (a .d) u z _ (c .month-step .ensures)
 
-month-step-month-mask-requires : (t : ℕ) → month-step-lts.Need-month-mask-requires (
-  month-mask-reads.Asked,
-  month-mask-reads.Learnt,
+month-step-passing-mask-requires : (t : ℕ) → month-step-lts.Need-passing-mask-requires (
+  passing-mask-reads.Asked,
+  passing-mask-reads.Learnt,
   month-days-reads.Asked,
   month-days-reads.Learnt,
   month-first-reads.Asked,
@@ -499,11 +500,11 @@ month-step-month-mask-requires : (t : ℕ) → month-step-lts.Need-month-mask-re
   month-step-below t,
   month-step.Post,
 ) (month-step-at t) month-step.Post
-month-step-month-mask-requires t c κs = c .pre .1 .ready .begun
+month-step-passing-mask-requires t c κs = c .pre .1 .ready .begun
 
 month-step-month-days-requires : (t : ℕ) → month-step-lts.Need-month-days-requires (
-  month-mask-reads.Asked,
-  month-mask-reads.Learnt,
+  passing-mask-reads.Asked,
+  passing-mask-reads.Learnt,
   month-days-reads.Asked,
   month-days-reads.Learnt,
   month-first-reads.Asked,
@@ -516,8 +517,8 @@ month-step-month-days-requires : (t : ℕ) → month-step-lts.Need-month-days-re
 month-step-month-days-requires t c κs = search needs
 
 month-step-month-first-requires : (t : ℕ) → month-step-lts.Need-month-first-requires (
-  month-mask-reads.Asked,
-  month-mask-reads.Learnt,
+  passing-mask-reads.Asked,
+  passing-mask-reads.Learnt,
   month-days-reads.Asked,
   month-days-reads.Learnt,
   month-first-reads.Asked,
@@ -530,8 +531,8 @@ month-step-month-first-requires : (t : ℕ) → month-step-lts.Need-month-first-
 month-step-month-first-requires t c κs = search needs
 
 month-step-day-step-requires : (t : ℕ) → month-step-lts.Need-day-step-requires (
-  month-mask-reads.Asked,
-  month-mask-reads.Learnt,
+  passing-mask-reads.Asked,
+  passing-mask-reads.Learnt,
   month-days-reads.Asked,
   month-days-reads.Learnt,
   month-first-reads.Asked,
@@ -546,12 +547,12 @@ month-step-day-step-requires t c κs = let s = c .before .before .before .before
     let p = s .pre .1 in
     let e = c .month-first .ensures in (
       omega (arith, s .pre .0, e),
-      (rw e p, first-day (a .k) (p .here .month), omega (arith, e), c .before .month-days .ensures, c .before .before .before .month-mask .ensures),
+      (rw e p, first-day (a .k) (p .here .month), omega (arith, e), c .before .month-days .ensures, c .before .before .before .passing-mask .ensures),
     )
 
 month-step-returns : (t : ℕ) → month-step-lts.Need-returns (
-  month-mask-reads.Asked,
-  month-mask-reads.Learnt,
+  passing-mask-reads.Asked,
+  passing-mask-reads.Learnt,
   month-days-reads.Asked,
   month-days-reads.Learnt,
   month-first-reads.Asked,
@@ -564,8 +565,8 @@ month-step-returns : (t : ℕ) → month-step-lts.Need-returns (
 month-step-returns t c = rw (c .before .month-first .ensures) at (c .day-step .ensures)
 
 month-step-element-copy-out-if2 : (t : ℕ) → month-step-lts.Need-element-copy-out-if2 (
-  month-mask-reads.Asked,
-  month-mask-reads.Learnt,
+  passing-mask-reads.Asked,
+  passing-mask-reads.Learnt,
   month-days-reads.Asked,
   month-days-reads.Learnt,
   month-first-reads.Asked,
@@ -578,8 +579,8 @@ month-step-element-copy-out-if2 : (t : ℕ) → month-step-lts.Need-element-copy
 month-step-element-copy-out-if2 t c = search needs
 
 month-step-element-copy-out-result : (t : ℕ) → month-step-lts.Need-element-copy-out-result (
-  month-mask-reads.Asked,
-  month-mask-reads.Learnt,
+  passing-mask-reads.Asked,
+  passing-mask-reads.Learnt,
   month-days-reads.Asked,
   month-days-reads.Learnt,
   month-first-reads.Asked,
@@ -592,8 +593,8 @@ month-step-element-copy-out-result : (t : ℕ) → month-step-lts.Need-element-c
 month-step-element-copy-out-result t c = search needs
 
 month-step-add-result : (t : ℕ) → month-step-lts.Need-add-result (
-  month-mask-reads.Asked,
-  month-mask-reads.Learnt,
+  passing-mask-reads.Asked,
+  passing-mask-reads.Learnt,
   month-days-reads.Asked,
   month-days-reads.Learnt,
   month-first-reads.Asked,
@@ -607,8 +608,8 @@ month-step-add-result t c = let s = c .before .before .before .before .before in
     omega (arith, last-day-top (now (s .args .f)) (s .pre .1 .ready))
 
 month-step-returns-2 : (t : ℕ) → month-step-lts.Need-returns-2 (
-  month-mask-reads.Asked,
-  month-mask-reads.Learnt,
+  passing-mask-reads.Asked,
+  passing-mask-reads.Learnt,
   month-days-reads.Asked,
   month-days-reads.Learnt,
   month-first-reads.Asked,
@@ -620,12 +621,12 @@ month-step-returns-2 : (t : ℕ) → month-step-lts.Need-returns-2 (
 ) (month-step-at t) month-step.Post
 month-step-returns-2 t c = let s = c .before .before .before .before .before in
     let a = s .args in
-    let z : SetOf (dayPart (now (a .f))) (dayHeld (now (a .f))) (a .k) 0 = rw (c .before .before .before .if1 .left) at (c .before .before .before .before .month-mask .ensures) in
+    let z : SetOf (dayPart (now (a .f))) (dayHeld (now (a .f))) (a .k) 0 = rw (c .before .before .before .if1 .left) at (c .before .before .before .before .passing-mask .ensures) in
     last-month-passed (now (a .f)) (a .k) (monthFirst (a .k)) (s .pre .1) z (c .before .if2 .taken)
 
 month-step-add-month-step : (t : ℕ) → month-step-lts.Need-add-month-step (
-  month-mask-reads.Asked,
-  month-mask-reads.Learnt,
+  passing-mask-reads.Asked,
+  passing-mask-reads.Learnt,
   month-days-reads.Asked,
   month-days-reads.Learnt,
   month-first-reads.Asked,
@@ -639,8 +640,8 @@ month-step-add-month-step t c = let s = c .before .before .before .before in
     omega (arith, s .pre .1 .here .month)
 
 month-step-month-step-requires : (t : ℕ) → month-step-lts.Need-month-step-requires (
-  month-mask-reads.Asked,
-  month-mask-reads.Learnt,
+  passing-mask-reads.Asked,
+  passing-mask-reads.Learnt,
   month-days-reads.Asked,
   month-days-reads.Learnt,
   month-first-reads.Asked,
@@ -658,8 +659,8 @@ month-step-month-step-requires t c κs = let s = c .before .before .before .befo
     )
 
 month-step-returns-3 : (t : ℕ) → month-step-lts.Need-returns-3 (
-  month-mask-reads.Asked,
-  month-mask-reads.Learnt,
+  passing-mask-reads.Asked,
+  passing-mask-reads.Learnt,
   month-days-reads.Asked,
   month-days-reads.Learnt,
   month-first-reads.Asked,
@@ -671,7 +672,7 @@ month-step-returns-3 : (t : ℕ) → month-step-lts.Need-returns-3 (
 ) (month-step-at t) month-step.Post
 month-step-returns-3 t c = let s = c .before .before .before .before .before in
     let a = s .args in
-    let z : SetOf (dayPart (now (a .f))) (dayHeld (now (a .f))) (a .k) 0 = rw (c .before .before .before .if1 .left) at (c .before .before .before .before .month-mask .ensures) in
+    let z : SetOf (dayPart (now (a .f))) (dayHeld (now (a .f))) (a .k) 0 = rw (c .before .before .before .if1 .left) at (c .before .before .before .before .passing-mask .ensures) in
     month-passed (now (a .f)) (a .k) (monthFirst (a .k)) (s .pre .1) z _ (c .month-step .ensures)
 
 pub +day-step+from-day+month-step-spec : {M : Type 1} → statement M
@@ -730,8 +731,8 @@ pub +day-step+from-day+month-step-spec : {M : Type 1} → statement M
     (from-day-month-step-requires t)
     (from-day-returns-3 t))
     λ t. month-step-lts.spec (
-      month-mask-reads.Asked,
-      month-mask-reads.Learnt,
+      passing-mask-reads.Asked,
+      passing-mask-reads.Learnt,
       month-days-reads.Asked,
       month-days-reads.Learnt,
       month-first-reads.Asked,
@@ -743,7 +744,7 @@ pub +day-step+from-day+month-step-spec : {M : Type 1} → statement M
     )
     (month-step-at t)
     month-step.Post
-    (month-step-month-mask-requires t)
+    (month-step-passing-mask-requires t)
     (month-step-month-days-requires t)
     (month-step-month-first-requires t)
     (month-step-day-step-requires t)
