@@ -7,5 +7,5 @@ use Rattle.frames.specs.Numbers.{dayHeld, startMonth}
 use Rattle.frames.specs.Rule.{monthDayAllowed, weekdayAllowed, inSet, placed, period, counts, ruleDay, ruleOccurs, ruleHeld}
 
 unfoldable pub opened : Unit {0}
-unfolding calendar-opened masks-opened cronDayAt cronDay cronTime cronHeld dayHeld startMonth monthDayAllowed weekdayAllowed inSet placed period counts ruleDay ruleOccurs ruleHeld monthCounts rulePart monthPart monthSet
+unfolding calendar-opened masks-opened cronDayAt cronDay cronTime cronHeld monthCounts rulePart monthPart monthSet dayHeld startMonth monthDayAllowed weekdayAllowed inSet placed period counts ruleDay ruleOccurs ruleHeld
 opened = tt
