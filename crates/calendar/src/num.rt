@@ -1,6 +1,6 @@
-// Numbers compared, and differences that stop at 0.
+// Numbers compared, differences that stop at 0, and remainders.
 ghost use mathlib.Core.Path.{_≡_};
-ghost use Prim.Native.Nat.{_-_, min, max};
+ghost use Prim.Native.Nat.{_-_, _%_, min, max};
 ghost use Rattle.calendar.specs.Below.{within};
 
 pub fn larger(a: u64, b: u64) -> u64
@@ -29,4 +29,14 @@ pub fn lies_within(low: u64, high: u64, n: u64) -> bool
         return false;
     }
     n <= high
+}
+
+// What n has over whole multiples of m; of 0 nothing is a multiple but 0.
+pub fn over_whole(n: u64, m: u64) -> u64
+    ensures { λ r. ⌜ r ≡ n % m ⌝ }
+{
+    if m == 0 {
+        return n;
+    }
+    n % m
 }

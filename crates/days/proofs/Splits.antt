@@ -1,19 +1,19 @@
 -- The day test in its two parts: the set of a month's days, and what goes by the day.
-use mathlib.Core.Bool.{Bool, true, false, cond, not, _&&_, and-false, and-true}
+use mathlib.Core.Bool.{Bool, true, false, cond, _&&_, and-false, and-true}
 use mathlib.Core.List.{List}
 use mathlib.Core.Path.{_≡_, refl, sym, ap, _∙_}
-use Prim.Native.Nat.{ℕ, _+_, _/_, _%_}
+use Prim.Native.Nat.{ℕ, _/_}
 use native.Mathlib.Omega.{arith}
-use borrow.Author.Tests.{eqb-true, not-true}
+use borrow.Author.Tests.{eqb-true}
 use lib.Dec.{leb, eqb}
 use lib.ListN.{getD}
 use Rattle.calendar.specs.Window.{localDate}
 use Rattle.masks.proofs.Bits.{bit-of-zero}
 use Rattle.masks.specs.Masks.{bit}
 use Rattle.frames.proofs.MonthDays.{month-of-day}
-use Rattle.frames.proofs.MonthSets.{both-true, month-bit, cron-day-at}
-use Rattle.frames.specs.Cron.{cronDayAt, cronDay}
-use Rattle.frames.specs.Months.{monthCounts, rulePart, monthPart, monthSet, dayOf, InMonth}
+use Rattle.frames.proofs.MonthSets.{month-bit, out-part}
+use Rattle.frames.specs.Cron.{cronDay}
+use Rattle.frames.specs.Months.{monthCounts, rulePart, monthPart, monthSet, monthOut, dayOf, InMonth}
 use Rattle.frames.specs.Numbers.{cronOf, ruleOf, dayHeld, startMonth}
 use Rattle.frames.specs.Rule.{inSet, placed, period, counts, ruleDay}
 use Rattle.frames.specs.declared.Rule.{Rule}
@@ -64,10 +64,7 @@ month-set-of l k set e =
           ∙ held-split l k n i;
     }
 
--- no day of a month that is none of a cron frame's
-pub month-out-of : (l : List ℕ) (k : ℕ) → (eqb (getD l 0 0) 3 && not (bit (getD l 4 0) (k % 12 + 1))) ≡ true → SetOf (dayPart l) (dayHeld l) k 0
-unfolding dayHeld cronDayAt
+-- and no day of a month that is out is held
+pub month-out-of : (l : List ℕ) (k : ℕ) → monthOut l k ≡ true → SetOf (dayPart l) (dayHeld l) k 0
 month-out-of l k e =
-    let p = both-true (eqb (getD l 0 0) 3) (not (bit (getD l 4 0) (k % 12 + 1))) e in
-    let m : bit (getD l 4 0) (k % 12 + 1) ≡ false = not-true (bit (getD l 4 0) (k % 12 + 1)) (p .1) in
-    record { decides = λ n i. rw (bit-of-zero n, p .0) (sym (cron-day-at (cronOf l) k n i ∙ simp m)) }
+    record { decides = λ n i. sym (ap (λ (b : Bool). b && dayPart l (dayOf k n)) (out-part l (startMonth l) k n e i ∙ sym (bit-of-zero n))) ∙ held-split l k n i }

@@ -5,6 +5,7 @@ ghost use Prim.Native.Nat.{_+_, _-_, _*_, _/_, _%_, _≤_, _<_};
 ghost use lib.ListN.{getD};
 ghost use Rattle.frames.specs.Numbers.{dayHeld};
 ghost use Rattle.days.specs.Steps.{Passed};
+use calendar::num::over_whole;
 
 // The number of a day's period: of its Monday week, or of the day itself.
 fn period(weekly: bool, d: u64) -> u64
@@ -20,16 +21,6 @@ fn begin(weekly: bool, p: u64) -> u64
     ensures { λ r. ⌜ r ≡ cond weekly (7 * p - 730119) p ⌝ }
 {
     if weekly { 7 * p - 730119 } else { p }
-}
-
-// What n has over whole intervals.
-pub(crate) fn over_whole(n: u64, interval: u64) -> u64
-    ensures { λ r. ⌜ r ≡ n % interval ⌝ }
-{
-    if interval == 0 {
-        return n;
-    }
-    n % interval
 }
 
 // The first day from d on whose period counts, or one past 2099.

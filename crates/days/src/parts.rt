@@ -1,13 +1,12 @@
 // The two parts of a frame's day test: what goes by the month, and what goes by the day.
 ghost use mathlib.Core.Path.{_≡_};
-ghost use mathlib.Core.Bool.{not, _&&_};
-ghost use Prim.Native.Nat.{_+_, _/_, _%_, _<_, _≤_};
-ghost use lib.Dec.{eqb};
+ghost use mathlib.Core.Bool.{_&&_};
+ghost use Prim.Native.Nat.{_/_, _<_, _≤_};
 ghost use lib.ListN.{getD};
 ghost use Rattle.masks.specs.Masks.{bit};
 ghost use Rattle.frames.specs.Numbers.{ruleOf, dayHeld, startMonth};
 ghost use Rattle.days.specs.Steps.{dayCounts, dayPart, SetOf};
-use crate::counted::over_whole;
+use calendar::num::over_whole;
 use frames::months;
 
 // The days of month k that the days' own part decides of.
@@ -18,22 +17,12 @@ pub(crate) fn month_mask(f: &[u64; 16], k: u64) -> u64
     months::month_set(f, f[12], k)
 }
 
-// Whether month k is none of a cron frame's months.
-fn month_out(f: &[u64; 16], k: u64) -> bool
-    ensures { λ r. ⌜ r ≡ (eqb (getD (now (f .entry)) 0 0) 3 && not (bit (getD (now (f .entry)) 4 0) (k % 12 + 1))) ⌝ }
-{
-    if f[0] != 3 {
-        return false;
-    }
-    !masks::test(f[4], k % 12 + 1)
-}
-
 // The same days, for a walk from month to month: most are passed by their number alone.
 pub(crate) fn passing_mask(f: &[u64; 16], k: u64) -> u64
     requires { ⌜ getD (now f) 12 0 ≡ startMonth (now f) ⌝ }
     ensures { λ r. ⌜ SetOf (dayPart (now (f .entry))) (dayHeld (now (f .entry))) k r ⌝ }
 {
-    if month_out(f, k) {
+    if months::month_out(f, k) {
         return 0;
     }
     month_mask(f, k)

@@ -1,10 +1,12 @@
 -- Sets of a month's days: the whole month, none of it, one built up, and what a frame says of a day by its place.
-use mathlib.Core.Bool.{Bool, true, false, cond, _&&_, _||_, and-true, false≢true}
+use mathlib.Core.Bool.{Bool, true, false, cond, not, _&&_, _||_, and-true, false≢true}
+use mathlib.Core.List.{List}
 use mathlib.Core.Path.{_≡_, refl, sym, ap, _∙_}
 use Prim.Native.Nat.{ℕ, suc, _+_, _-_, _%_, _≤_}
 use native.Mathlib.Omega.{arith}
-use borrow.Author.Tests.{lt-leb}
-use lib.Dec.{T, leb}
+use borrow.Author.Tests.{lt-leb, eq-eqb, not-true, not-false}
+use lib.Dec.{T, leb, eqb}
+use lib.ListN.{getD}
 use Rattle.calendar.proofs.Every.{every}
 use Rattle.calendar.specs.Below.{everyBelow}
 use Rattle.calendar.specs.Window.{monthFirst, monthDays, localWeekday}
@@ -12,7 +14,8 @@ use Rattle.masks.proofs.MaskFroms.{mask-from-same, mask-none, bit-in-mask}
 use Rattle.masks.proofs.WithBits.{mask-from-with-last}
 use Rattle.masks.specs.Masks.{bit, maskFrom, withBit, bitsBelow, bitsFrom}
 use Rattle.frames.specs.Cron.{cronDayAt, cronDay}
-use Rattle.frames.specs.Months.{monthCounts, rulePart, dayOf, InMonth}
+use Rattle.frames.specs.Months.{monthCounts, rulePart, monthPart, monthOut, dayOf, InMonth}
+use Rattle.frames.specs.Numbers.{cronOf}
 use Rattle.frames.specs.Rule.{noLimit, monthDayAllowed, weekdayAllowed, inSet, placed}
 use Rattle.frames.specs.declared.Cron.{Cron}
 use Rattle.frames.specs.declared.Rule.{Rule}
@@ -81,6 +84,19 @@ built-whole test n len set e d =
 pub cron-day-at : (f : Cron) (k n : ℕ) → InMonth k n → cronDay f (dayOf k n) ≡ cronDayAt f (k % 12 + 1) n ((localWeekday (monthFirst k) + (n - 1)) % 7)
 unfolding cronDay
 cron-day-at f k n i = rw (month-of-day k n i, day-of-day k n i, weekday-of-day k n i)
+
+-- none of its months
+pub out-part : (l : List ℕ) (start k n : ℕ) → monthOut l k ≡ true → InMonth k n → monthPart l start k (dayOf k n) ≡ false
+unfolding monthOut monthPart cronDayAt
+out-part l start k n e i =
+    let p = both-true (eqb (getD l 0 0) 3) (not (bit (getD l 4 0) (k % 12 + 1))) e in
+    let m : bit (getD l 4 0) (k % 12 + 1) ≡ false = not-true (bit (getD l 4 0) (k % 12 + 1)) (p .1) in
+    rw (p .0) (cron-day-at (cronOf l) k n i ∙ simp m)
+
+-- one of its months
+pub month-in : (l : List ℕ) (k : ℕ) → monthOut l k ≡ false → getD l 0 0 ≡ 3 → bit (getD l 4 0) (k % 12 + 1) ≡ true
+unfolding monthOut
+month-in l k e z = not-false (bit (getD l 4 0) (k % 12 + 1)) (simp (eq-eqb (getD l 0 0) 3 z) at e)
 
 pub in-set-at : (f : Rule) (k n : ℕ) → InMonth k n
     → inSet f (dayOf k n) ≡ (monthDayAllowed f n (monthDays k + 1 - n) && weekdayAllowed f n (monthDays k + 1 - n) ((localWeekday (monthFirst k) + (n - 1)) % 7))

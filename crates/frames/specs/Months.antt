@@ -1,11 +1,11 @@
 -- What a frame says of a whole month: all of its day test but a rule's start and a daily or weekly interval.
-use mathlib.Core.Bool.{Bool, true, false, cond, _&&_, _||_}
+use mathlib.Core.Bool.{Bool, true, false, cond, not, _&&_, _||_}
 use mathlib.Core.List.{List}
 use Prim.Native.Nat.{ℕ, _+_, _-_, _%_, _<_, _≤_}
 use lib.Dec.{eqb}
 use lib.ListN.{getD}
 use Rattle.calendar.specs.Window.{monthFirst, monthDays}
-use Rattle.masks.specs.Masks.{maskFrom}
+use Rattle.masks.specs.Masks.{bit, maskFrom}
 use Rattle.frames.specs.Cron.{cronDay}
 use Rattle.frames.specs.Numbers.{cronOf, ruleOf}
 use Rattle.frames.specs.Rule.{inSet, placed}
@@ -33,3 +33,7 @@ pub record InMonth (k n : ℕ) : Type 0 where
 -- the days of month k that pass, as a mask; `start` is the month of the start
 unfoldable pub monthSet : List ℕ → ℕ → ℕ → ℕ
 monthSet l start k = maskFrom (λ n. monthPart l start k (dayOf k n)) (monthDays k) 1
+
+-- a cron frame's month that is not in its mask: "minute, hour and month match and the day does"
+unfoldable pub monthOut : List ℕ → ℕ → Bool
+monthOut l k = eqb (getD l 0 0) 3 && not (bit (getD l 4 0) (k % 12 + 1))

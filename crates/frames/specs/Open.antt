@@ -2,10 +2,10 @@
 use Rattle.calendar.specs.Open.{opened as calendar-opened}
 use Rattle.masks.specs.Open.{opened as masks-opened}
 use Rattle.frames.specs.Cron.{cronDayAt, cronDay, cronTime, cronHeld}
-use Rattle.frames.specs.Months.{monthCounts, rulePart, monthPart, monthSet}
+use Rattle.frames.specs.Months.{monthCounts, rulePart, monthPart, monthSet, monthOut}
 use Rattle.frames.specs.Numbers.{dayHeld, startMonth}
 use Rattle.frames.specs.Rule.{monthDayAllowed, weekdayAllowed, inSet, placed, period, counts, ruleDay, ruleOccurs, ruleHeld}
 
 unfoldable pub opened : Unit {0}
-unfolding calendar-opened masks-opened cronDayAt cronDay cronTime cronHeld monthCounts rulePart monthPart monthSet dayHeld startMonth monthDayAllowed weekdayAllowed inSet placed period counts ruleDay ruleOccurs ruleHeld
+unfolding calendar-opened masks-opened cronDayAt cronDay cronTime cronHeld monthCounts rulePart monthPart monthSet monthOut dayHeld startMonth monthDayAllowed weekdayAllowed inSet placed period counts ruleDay ruleOccurs ruleHeld
 opened = tt

@@ -1,17 +1,18 @@
 // What a frame says of a whole month, as a mask of its days.
 ghost use mathlib.Core.Path.{_≡_};
-ghost use Prim.Native.Nat.{_%_, _≤_, _<_};
-ghost use lib.Dec.{eqb};
+ghost use mathlib.Core.Bool.{true};
+ghost use Prim.Native.Nat.{_+_, _%_, _≤_, _<_};
 ghost use Rattle.calendar.specs.Window.{monthFirst, monthDays, localWeekday};
 ghost use Rattle.masks.specs.Masks.{bit, maskFrom};
 ghost use Rattle.frames.specs.Cron.{cronDay};
-ghost use Rattle.frames.specs.Months.{monthCounts, dayOf, rulePart, monthSet};
+ghost use Rattle.frames.specs.Months.{monthCounts, dayOf, rulePart, monthSet, monthOut};
 ghost use Rattle.frames.specs.Rule.{inSet};
 use crate::Cron;
 use crate::Rule;
 use crate::limits;
 use crate::numbers;
 use crate::picks;
+use calendar::num;
 use calendar::window;
 use calendar::year;
 
@@ -30,30 +31,27 @@ fn within(mask: u64, len: u64) -> u64
     (mask >> 1) % (1 << len) * 2
 }
 
-// A cron frame's days of month k.
+// Whether month k is none of a cron frame's months: no day of it is held then.
+pub fn month_out(f: &[u64; 16], k: u64) -> bool
+    ensures { λ r. ⌜ r ≡ monthOut (now (f .entry)) k ⌝ }
+{
+    if f[0] != 3 {
+        return false;
+    }
+    !masks::test(f[4], k % 12 + 1)
+}
+
+// A cron frame's days of month k, one of its months.
 fn cron_set(f: Cron, k: u64) -> u64
-    requires { ⌜ k < 1200 ⌝ }
+    requires { ⌜ (k < 1200) × (bit (f .months) (k % 12 + 1) ≡ true) ⌝ }
     ensures { λ r. ⌜ r ≡ maskFrom (λ n. cronDay f (dayOf k n)) (monthDays k) 1 ⌝ }
 {
-    if !masks::test(f.months, k % 12 + 1) {
-        return 0;
-    }
     let len = window::month_days(k);
     let week = limits::week_days(f.weekdays, first_weekday(k));
     if f.flags % 4 == 3 {
         return within(f.days | week, len);
     }
     within(f.days & week, len)
-}
-
-// Every interval'th number, 0 the first.
-fn every(n: u64, interval: u64) -> bool
-    ensures { λ r. ⌜ r ≡ eqb (n % interval) 0 ⌝ }
-{
-    if interval == 0 {
-        return n == 0;
-    }
-    n % interval == 0
 }
 
 // Every interval'th month of a rule whose periods are months.
@@ -66,10 +64,7 @@ fn month_counts(f: Rule, start: u64, k: u64) -> bool
     if f.frequency == 2 {
         return true;
     }
-    if k < start {
-        return every(0, f.interval);
-    }
-    every(k - start, f.interval)
+    num::over_whole(num::less(k, start), f.interval) == 0
 }
 
 // The day set of a rule's month.
@@ -106,6 +101,9 @@ pub fn month_set(f: &[u64; 16], start: u64, k: u64) -> u64
     ensures { λ r. ⌜ r ≡ monthSet (now (f .entry)) start k ⌝ }
 {
     if 1199 < k {
+        return 0;
+    }
+    if month_out(f, k) {
         return 0;
     }
     if f[0] == 3 {

@@ -1,31 +1,18 @@
--- No day of a month that is not in the mask; in any other the two day fields, day by day.
-use mathlib.Core.Bool.{Bool, true, false, _&&_, _||_}
+-- The two day fields, day by day.
+use mathlib.Core.Bool.{Bool, _&&_, _||_}
 use mathlib.Core.Path.{_≡_, sym, ap, _∙_}
 use Prim.Native.Nat.{ℕ, _+_, _-_, _%_}
 use native.Mathlib.Omega.{arith}
-use borrow.Author.Tests.{not-true, not-false}
 use Rattle.masks.proofs.WithBits.{bit-of-both, bit-of-shared}
 use Rattle.masks.specs.Masks.{bit}
 use Rattle.frames.specs.Cron.{cronDayAt, cronDay}
 use Rattle.frames.specs.Months.{dayOf}
 use Rattle.frames.proofs.Flags.{both-flags, not-both-flags}
 use Rattle.frames.proofs.MonthDays.{days-at-most, weekday-at-most}
-use Rattle.frames.proofs.MonthSets.{month-none, month-same, cron-day-at}
+use Rattle.frames.proofs.MonthSets.{month-same, cron-day-at}
 use borrow.Author.Needs.{needs}
 use Rattle.frames.proofs.months.cron_set.Statement.{statement}
 use Rattle.frames.proofs.months.cron_set.Tie as tie
-
-add-test : tie.Need-add-test
-add-test c = search needs
-
-test-requires : tie.Need-test-requires
-test-requires c κs = search needs
-
-returns : tie.Need-returns
-unfolding cronDayAt
-returns c = let a = c .before .before .args in
-    let e : bit (a .f .months) (a .k % 12 + 1) ≡ false = sym (c .before .test .ensures) ∙ not-true (c .before .test .result) (c .if1 .taken) in
-    month-none (λ n. cronDay (a .f) (dayOf (a .k) n)) (a .k) (λ n i. cron-day-at (a .f) (a .k) n i ∙ simp e)
 
 month-days-requires : tie.Need-month-days-requires
 month-days-requires c κs = search needs
@@ -37,50 +24,47 @@ week-days-requires : tie.Need-week-days-requires
 week-days-requires c κs = rw (c .first-weekday .ensures) (weekday-at-most _)
 
 within-requires : tie.Need-within-requires
-within-requires c κs = omega (arith, c .before .before .before .before .before .month-days .ensures, days-at-most (c .before .before .before .before .before .before .before .before .args .k))
+within-requires c κs = omega (arith, c .before .before .before .before .before .month-days .ensures, days-at-most (c .before .before .before .before .before .before .args .k))
 
-returns-2 : tie.Need-returns-2
+returns : tie.Need-returns
 unfolding cronDayAt
-returns-2 c = let a = c .before .before .before .before .before .before .before .before .before .args in
+returns c = let s = c .before .before .before .before .before .before .before in
+    let a = s .args in
     let len = c .before .before .before .before .before .before .month-days in
-    let t = c .before .before .before .before .before .before .before .before .test in
-    let m : bit (a .f .months) (a .k % 12 + 1) ≡ true = sym (t .ensures) ∙ not-false (t .result) (c .before .before .before .before .before .before .before .if1 .left) in
     let w = c .before .before .before .before .before .first-weekday .ensures in
     c .within .ensures
     ∙ month-same _ (λ n. cronDay (a .f) (dayOf (a .k) n)) (a .k) (len .result) (len .ensures)
     (λ n i.
     bit-of-both (a .f .days) _ n
-    ∙ ap (λ (b : Bool). bit (a .f .days) n || b) (c .before .before .before .before .week-days .ensures n (i .low) (omega (arith, i .high, days-at-most (a .k))) ∙ ap (λ (x : ℕ). bit (a .f .weekdays) ((x + (n - 1)) % 7)) w)
-    ∙ sym (cron-day-at (a .f) (a .k) n i ∙ simp (m, both-flags (a .f .flags) (c .before .before .if2 .taken))))
+    ∙ ap (λ (b : Bool). bit (a .f .days) n || b)
+    (c .before .before .before .before .week-days .ensures n (i .low) (omega (arith, i .high, days-at-most (a .k))) ∙ ap (λ (x : ℕ). bit (a .f .weekdays) ((x + (n - 1)) % 7)) w)
+    ∙ sym (cron-day-at (a .f) (a .k) n i ∙ simp (s .pre .1, both-flags (a .f .flags) (c .before .before .if1 .taken))))
 
 within-requires-2 : tie.Need-within-requires-2
-within-requires-2 c κs = omega (arith, c .before .before .before .before .before .month-days .ensures, days-at-most (c .before .before .before .before .before .before .before .before .args .k))
+within-requires-2 c κs = omega (arith, c .before .before .before .before .before .month-days .ensures, days-at-most (c .before .before .before .before .before .before .args .k))
 
-returns-3 : tie.Need-returns-3
+returns-2 : tie.Need-returns-2
 unfolding cronDayAt
-returns-3 c = let a = c .before .before .before .before .before .before .before .before .before .args in
+returns-2 c = let s = c .before .before .before .before .before .before .before in
+    let a = s .args in
     let len = c .before .before .before .before .before .before .month-days in
-    let t = c .before .before .before .before .before .before .before .before .test in
-    let m : bit (a .f .months) (a .k % 12 + 1) ≡ true = sym (t .ensures) ∙ not-false (t .result) (c .before .before .before .before .before .before .before .if1 .left) in
     let w = c .before .before .before .before .before .first-weekday .ensures in
     c .within2 .ensures
     ∙ month-same _ (λ n. cronDay (a .f) (dayOf (a .k) n)) (a .k) (len .result) (len .ensures)
     (λ n i.
     bit-of-shared (a .f .days) _ n
-    ∙ ap (λ (b : Bool). bit (a .f .days) n && b) (c .before .before .before .before .week-days .ensures n (i .low) (omega (arith, i .high, days-at-most (a .k))) ∙ ap (λ (x : ℕ). bit (a .f .weekdays) ((x + (n - 1)) % 7)) w)
-    ∙ sym (cron-day-at (a .f) (a .k) n i ∙ simp (m, not-both-flags (a .f .flags) (c .before .before .if2 .left))))
+    ∙ ap (λ (b : Bool). bit (a .f .days) n && b)
+    (c .before .before .before .before .week-days .ensures n (i .low) (omega (arith, i .high, days-at-most (a .k))) ∙ ap (λ (x : ℕ). bit (a .f .weekdays) ((x + (n - 1)) % 7)) w)
+    ∙ sym (cron-day-at (a .f) (a .k) n i ∙ simp (s .pre .1, not-both-flags (a .f .flags) (c .before .before .if1 .left))))
 
 pub cron-set-spec : {M : Type 1} → statement M
 cron-set-spec =
     tie.close
     (tie.spec
-    add-test
-    test-requires
-    returns
     month-days-requires
     first-weekday-requires
     week-days-requires
     within-requires
-    returns-2
+    returns
     within-requires-2
-    returns-3)
+    returns-2)

@@ -1,9 +1,9 @@
--- By 0 nothing is whole.
+-- By 0 the remainder is the number itself.
 use mathlib.Core.Path.{sym}
 use native.Mathlib.Nat.{mod-zero}
 use borrow.Author.Needs.{needs}
-use Rattle.days.proofs.counted.over_whole.Statement.{statement}
-use Rattle.days.proofs.counted.over_whole.Tie as tie
+use Rattle.calendar.proofs.num.over_whole.Statement.{statement}
+use Rattle.calendar.proofs.num.over_whole.Tie as tie
 
 returns : tie.Need-returns
 returns c = rw (c .if1 .taken) (sym (mod-zero _))

@@ -1,13 +1,15 @@
 -- No cron frame, or the bit of the month.
+use Rattle.frames.specs.Months.{monthOut}
 use borrow.Author.Tests.{eq-eqb, ne-eqb}
 use borrow.Author.Needs.{needs}
-use Rattle.days.proofs.parts.month_out.Statement.{statement}
-use Rattle.days.proofs.parts.month_out.Tie as tie
+use Rattle.frames.proofs.months.month_out.Statement.{statement}
+use Rattle.frames.proofs.months.month_out.Tie as tie
 
 element-copy-out-if1 : tie.Need-element-copy-out-if1
 element-copy-out-if1 c = search needs
 
 returns : tie.Need-returns
+unfolding monthOut
 returns c = rw (ne-eqb _ _ (c .if1 .taken))
 
 element-copy-out-test : tie.Need-element-copy-out-test
@@ -20,6 +22,7 @@ test-requires : tie.Need-test-requires
 test-requires c κs = search needs
 
 returns-2 : tie.Need-returns-2
+unfolding monthOut
 returns-2 c = rw (c .test .ensures, eq-eqb _ _ (c .before .before .if1 .left))
 
 pub month-out-spec : {M : Type 1} → statement M
