@@ -87,7 +87,8 @@ module _ (l : List ℕ) (weekly : Bool) (kind : getD l 0 0 ≡ 4) (frequency : g
   unfolding period
   period-is d = by-frequency weekly frequency
     where
-      by-frequency : (w : Bool) → getD l 1 0 ≡ cond w 2 1 → cond (eqb (getD l 1 0) 1) d (cond (eqb (getD l 1 0) 2) (localWeek d) (localDate d .month)) ≡ periodOf w d
+      by-frequency : (w : Bool) → getD l 1 0 ≡ cond w 2 1
+          → cond (eqb (getD l 1 0) 1) d (cond (eqb (getD l 1 0) 2) (localWeek d) (localDate d .month)) ≡ periodOf w d
       by-frequency true e = rw e (week-of d)
       by-frequency false e = rw e refl
 

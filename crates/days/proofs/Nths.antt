@@ -36,7 +36,8 @@ module _ (test : ℕ → Bool) where
       (λ (t : test i ≡ true). let z : i ≡ i + suc k = rw (t, leastFrom) at e in absurd (omega arith))
       (λ (f : test i ≡ false). rw (f, nthFrom) (nth-none c k (suc i) ((rw (f, leastFrom) at e) ∙ sym s) ∙ s))
 
-  nth-next : (c k i : ℕ) → (c ≡ 1 → ⊥) → leastFrom test k i < i + k → nthFrom test c k i ≡ nthFrom test (c - 1) (i + k - (leastFrom test k i + 1)) (leastFrom test k i + 1)
+  nth-next : (c k i : ℕ) → (c ≡ 1 → ⊥) → leastFrom test k i < i + k
+      → nthFrom test c k i ≡ nthFrom test (c - 1) (i + k - (leastFrom test k i + 1)) (leastFrom test k i + 1)
   unfolding nthFrom leastFrom
   nth-next c zero i n h = absurd (omega arith)
   nth-next c (suc k) i n h =

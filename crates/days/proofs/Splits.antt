@@ -20,14 +20,16 @@ use Rattle.frames.specs.declared.Rule.{Rule}
 use Rattle.days.specs.Steps.{dayCounts, dayPart, SetOf}
 
 -- a rule's interval: that of days or weeks with the day, that of months with the month
-by-frequency : (f : Rule) (start k n : ℕ) → start ≡ localDate (f .start / 1440) .month → InMonth k n → (a b : Bool) → eqb (f .frequency) 1 ≡ a → eqb (f .frequency) 2 ≡ b
+by-frequency : (f : Rule) (start k n : ℕ) → start ≡ localDate (f .start / 1440) .month → InMonth k n → (a b : Bool) → eqb (f .frequency) 1 ≡ a
+    → eqb (f .frequency) 2 ≡ b
     → counts f (dayOf k n) ≡ (dayCounts f (dayOf k n) && monthCounts f start k)
 unfolding counts dayCounts monthCounts period
 by-frequency f start k n e i true b p q = simp (p, and-true)
 by-frequency f start k n e i false true p q = simp (p, q, and-true)
 by-frequency f start k n e i false false p q = simp (p, q, month-of-day k n i, e)
 
-counts-split : (f : Rule) (start k n : ℕ) → start ≡ localDate (f .start / 1440) .month → InMonth k n → counts f (dayOf k n) ≡ (dayCounts f (dayOf k n) && monthCounts f start k)
+counts-split : (f : Rule) (start k n : ℕ) → start ≡ localDate (f .start / 1440) .month → InMonth k n
+    → counts f (dayOf k n) ≡ (dayCounts f (dayOf k n) && monthCounts f start k)
 counts-split f start k n e i = by-frequency f start k n e i (eqb (f .frequency) 1) (eqb (f .frequency) 2) refl refl
 
 rearranged : (a b c d : Bool) → (c && d && (a && b)) ≡ (a && (b && c && d))
@@ -44,7 +46,8 @@ module _ (l : List ℕ) (k n : ℕ) (i : InMonth k n) where
       rearranged (leb (f .start / 1440) d) (dayCounts f d) (monthCounts f (localDate (f .start / 1440) .month) k) (inSet f d && placed f d)
       ∙ ap (λ (b : Bool). leb (f .start / 1440) d && (b && (inSet f d && placed f d))) (sym (counts-split f (localDate (f .start / 1440) .month) k n refl i))
 
-  by-kind : (a b : Bool) → eqb (getD l 0 0) 3 ≡ a → eqb (getD l 0 0) 4 ≡ b → (monthPart l (startMonth l) k (dayOf k n) && dayPart l (dayOf k n)) ≡ dayHeld l (dayOf k n)
+  by-kind : (a b : Bool) → eqb (getD l 0 0) 3 ≡ a → eqb (getD l 0 0) 4 ≡ b
+      → (monthPart l (startMonth l) k (dayOf k n) && dayPart l (dayOf k n)) ≡ dayHeld l (dayOf k n)
   unfolding monthPart dayPart dayHeld
   by-kind true false p q = rw (p, q) (and-true (cronDay (cronOf l) (dayOf k n)))
   by-kind true true p q = absurd (omega (arith, eqb-true (getD l 0 0) 3 p, eqb-true (getD l 0 0) 4 q))

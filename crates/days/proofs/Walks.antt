@@ -117,7 +117,8 @@ pub last-day : (k : ℕ) → k < 1200 → InMonth k (monthDays k)
 last-day k h = record { month = h; low = omega (arith, month-days-range k h .0); high = omega arith }
 
 -- no day of a month with an empty set is held
-pub none-held : (l : List ℕ) (k : ℕ) → k < 1200 → SetOf (dayPart l) (dayHeld l) k 0 → (j : ℕ) → monthFirst k ≤ j → j < monthFirst k + monthDays k → dayHeld l j ≡ false
+pub none-held : (l : List ℕ) (k : ℕ) → k < 1200 → SetOf (dayPart l) (dayHeld l) k 0 → (j : ℕ) → monthFirst k ≤ j → j < monthFirst k + monthDays k
+    → dayHeld l j ≡ false
 none-held l k m s j a b =
     let n : ℕ = j - monthFirst k + 1 in
     let i : InMonth k n = record { month = m; low = omega arith; high = omega arith } in
@@ -138,13 +139,15 @@ module _ (held : ℕ → Bool) (d next end : ℕ) (f : held d ≡ false) (p : Pa
   all-passed h = least-none held d (end + 1) (omega arith) (λ j u v. none-on j u (omega arith) (omega arith))
 
 -- a month with an empty set is passed
-pub month-passed : (l : List ℕ) (k d : ℕ) → Up l k d → SetOf (dayPart l) (dayHeld l) k 0 → (r : ℕ) → Least (dayHeld l) (monthFirst (k + 1)) (getD l 14 0 + 1) r → Least (dayHeld l) d (getD l 14 0 + 1) r
+pub month-passed : (l : List ℕ) (k d : ℕ) → Up l k d → SetOf (dayPart l) (dayHeld l) k 0 → (r : ℕ)
+    → Least (dayHeld l) (monthFirst (k + 1)) (getD l 14 0 + 1) r → Least (dayHeld l) d (getD l 14 0 + 1) r
 month-passed l k d u z r a =
     let n = month-first-next k (u .here .month) in
     least-after (dayHeld l) d (monthFirst (k + 1)) (getD l 14 0 + 1) r (omega (arith, n, u .here .to))
     (λ j b c. none-held l k (u .here .month) z j (omega (arith, u .here .from)) (omega (arith, n))) a
 
-pub last-month-passed : (l : List ℕ) (k d : ℕ) → Up l k d → SetOf (dayPart l) (dayHeld l) k 0 → getD l 13 0 ≤ k → Least (dayHeld l) d (getD l 14 0 + 1) (getD l 14 0 + 1)
+pub last-month-passed : (l : List ℕ) (k d : ℕ) → Up l k d → SetOf (dayPart l) (dayHeld l) k 0 → getD l 13 0 ≤ k
+    → Least (dayHeld l) d (getD l 14 0 + 1) (getD l 14 0 + 1)
 last-month-passed l k d u z h =
     least-none (dayHeld l) d (getD l 14 0 + 1) (omega (arith, u .before))
     (λ j b c. none-held l k (u .here .month) z j (omega (arith, u .here .from)) (omega (arith, up-last l k d u h)))
@@ -169,7 +172,8 @@ month-passed-back l k d w z h r a =
     last-before (dayHeld l) (getD l 14 0) (monthFirst (k - 1) + monthDays (k - 1)) (d + 1) r (omega (arith, n, w .here .from))
     (λ j b c. none-held l k (w .here .month) z j (omega (arith, n)) (omega (arith, w .here .to))) a
 
-pub last-month-passed-back : (l : List ℕ) (k d : ℕ) → Down l k d → SetOf (dayPart l) (dayHeld l) k 0 → k ≤ getD l 13 0 → Last (dayHeld l) (getD l 14 0) (d + 1) (getD l 14 0)
+pub last-month-passed-back : (l : List ℕ) (k d : ℕ) → Down l k d → SetOf (dayPart l) (dayHeld l) k 0 → k ≤ getD l 13 0
+    → Last (dayHeld l) (getD l 14 0) (d + 1) (getD l 14 0)
 last-month-passed-back l k d w z h =
     last-none (dayHeld l) (getD l 14 0) (d + 1) (omega (arith, w .after))
     (λ j b c. none-held l k (w .here .month) z j (omega (arith, down-last l k d w h)) (omega (arith, w .here .to)))

@@ -39,6 +39,7 @@ module _ (f : Rule) (day back weekday : ℕ) where
   unfolding weekdayAllowed
   plain-weekday l w = rw (w, no-ordinal (f .ordinals) day back weekday l) (or-false (bit (f .weekdays) weekday))
 
-  pub ordinal-weekday : noLimit (f .ordinals) ≡ false → weekdayAllowed f day back weekday ≡ (bit (f .weekdays) weekday || ordinalAllowed (f .ordinals) day back weekday)
+  pub ordinal-weekday : noLimit (f .ordinals) ≡ false
+      → weekdayAllowed f day back weekday ≡ (bit (f .weekdays) weekday || ordinalAllowed (f .ordinals) day back weekday)
   unfolding weekdayAllowed
   ordinal-weekday l = rw (l, and-false (eqb (f .weekdays) 0)) refl

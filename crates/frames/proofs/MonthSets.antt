@@ -12,9 +12,9 @@ use Rattle.calendar.specs.Below.{everyBelow}
 use Rattle.calendar.specs.Window.{monthFirst, monthDays, localWeekday}
 use Rattle.masks.proofs.MaskFroms.{mask-from-same, mask-none, bit-in-mask}
 use Rattle.masks.proofs.WithBits.{mask-from-with-last}
-use Rattle.masks.specs.Masks.{bit, maskFrom, withBit, bitsBelow, bitsFrom}
+use Rattle.masks.specs.Masks.{bit, maskFrom, withBit}
 use Rattle.frames.specs.Cron.{cronDayAt, cronDay}
-use Rattle.frames.specs.Months.{monthCounts, rulePart, monthPart, monthOut, dayOf, InMonth}
+use Rattle.frames.specs.Months.{monthCounts, rulePart, monthPart, monthOut, dayOf, InMonth, placeWanted}
 use Rattle.frames.specs.Numbers.{cronOf}
 use Rattle.frames.specs.Rule.{noLimit, monthDayAllowed, weekdayAllowed, inSet, placed}
 use Rattle.frames.specs.declared.Cron.{Cron}
@@ -48,7 +48,8 @@ whole-bit n l h =
 pub month-none : (test : ℕ → Bool) (k : ℕ) → ((n : ℕ) → InMonth k n → test n ≡ false) → 0 ≡ maskFrom test (monthDays k) 1
 month-none test k none = sym (mask-none test (monthDays k) 1 (λ n l h. none n (in-month k n l (omega arith))))
 
-pub month-same : (test other : ℕ → Bool) (k len : ℕ) → len ≡ monthDays k → ((n : ℕ) → InMonth k n → test n ≡ other n) → maskFrom test len 1 ≡ maskFrom other (monthDays k) 1
+pub month-same : (test other : ℕ → Bool) (k len : ℕ) → len ≡ monthDays k → ((n : ℕ) → InMonth k n → test n ≡ other n)
+    → maskFrom test len 1 ≡ maskFrom other (monthDays k) 1
 month-same test other k len e same =
     ap (λ (m : ℕ). maskFrom test m 1) e ∙ mask-from-same test other (monthDays k) 1 (λ n l h. same n (in-month k n l (omega arith)))
 
@@ -66,7 +67,8 @@ pub built-none : (test : ℕ → Bool) → 0 ≡ maskFrom test (1 - 1) 1
 unfolding maskFrom
 built-none test = refl
 
-pub built-next : (test : ℕ → Bool) (n set : ℕ) → 1 ≤ n → n ≤ 31 → set ≡ maskFrom test (n - 1) 1 → (b : Bool) → test n ≡ b → cond b (withBit set n) set ≡ maskFrom test (n + 1 - 1) 1
+pub built-next : (test : ℕ → Bool) (n set : ℕ) → 1 ≤ n → n ≤ 31 → set ≡ maskFrom test (n - 1) 1 → (b : Bool) → test n ≡ b
+    → cond b (withBit set n) set ≡ maskFrom test (n + 1 - 1) 1
 built-next test n set l h e b t = rw (built test n l h, t, e)
 
 pub built-with : (test : ℕ → Bool) (n set : ℕ) → 1 ≤ n → n ≤ 31 → set ≡ maskFrom test (n - 1) 1 → test n ≡ true → withBit set n ≡ maskFrom test (n + 1 - 1) 1
@@ -110,7 +112,7 @@ module _ (f : Rule) (start k n : ℕ) (m : monthCounts f start k ≡ true) (i : 
   free-part l = rw (m, placed, l) (sym (and-true (inSet f (dayOf k n))))
 
   pub picked-part : (s : ℕ) → s ≡ maskFrom (λ j. inSet f (dayOf k j)) (monthDays k) 1 → noLimit (f .positions) ≡ false
-      → (bit s n && (bit (f .positions .front) (bitsBelow s (n + 1)) || bit (f .positions .back) (bitsFrom s n))) ≡ rulePart f start k (dayOf k n)
+      → placeWanted (f .positions) s n ≡ rulePart f start k (dayOf k n)
   unfolding rulePart
   picked-part s e l =
       let b : bit s n ≡ inSet f (dayOf k n) = ap (λ (x : ℕ). bit x n) e ∙ month-bit (λ j. inSet f (dayOf k j)) k n i in

@@ -12,6 +12,9 @@ use Rattle.calendar.proofs.Every.{every}
 use Rattle.calendar.specs.Below.{everyBelow}
 use Rattle.masks.proofs.Bits.{decided, bit-above, bit-of-quotient, bit-of-rest, bit-of-multiple}
 use Rattle.masks.specs.Masks.{bit}
+use Rattle.frames.specs.Months.{ordinalAt}
+use Rattle.frames.specs.Rule.{ordinalMask, ordinalAllowed}
+use Rattle.frames.specs.declared.Ends.{Ends}
 use Rattle.frames.proofs.MonthSets.{is-true}
 
 bytes-are-bits : (j : ℕ) → j ≤ 4 → 256 ^ j ≡ 2 ^ (8 * j)
@@ -83,11 +86,30 @@ regrouped false true false s = refl
 regrouped false false true s = refl
 regrouped false false false s = refl
 
-pub ordinals-grown : (a b : ℕ → Bool) (x y n : ℕ) → (ltb x n && a x || ltb y n && b y || (eqb x n && a n || eqb y n && b n)) ≡ (ltb x (n + 1) && a x || ltb y (n + 1) && b y)
-ordinals-grown a b x y n = regrouped (ltb x n && a x) (ltb y n && b y) (eqb x n && a n) (eqb y n && b n) ∙ ap₂ _||_ (one-more a x n) (one-more b y n)
+-- the days of the ordinals up to n
+module _ (e : Ends) (first len d : ℕ) where
+  abbrev weekday : ℕ
+  weekday = (first + (d - 1)) % 7
 
-pub ordinals-none : (a b : Bool) (x y : ℕ) → (ltb x 0 && a || ltb y 0 && b) ≡ false
-ordinals-none a b x y = rw (le-ltb x 0 (omega arith), le-ltb y 0 (omega arith)) refl
+  abbrev pub below : ℕ → Bool
+  below n =
+      ltb ((d - 1) / 7) n && bit (ordinalMask (e .front) ((d - 1) / 7 + 1)) weekday
+      || ltb ((len - d) / 7) n && bit (ordinalMask (e .back) ((len - d) / 7 + 1)) weekday
 
-pub ordinals-all : (a b : Bool) (x y : ℕ) → x < 5 → y < 5 → (ltb x 5 && a || ltb y 5 && b) ≡ (a || b)
-ordinals-all a b x y h l = rw (lt-ltb x 5 h, lt-ltb y 5 l) refl
+  pub below-none : below 0 ≡ false
+  below-none = rw (le-ltb ((d - 1) / 7) 0 (omega arith), le-ltb ((len - d) / 7) 0 (omega arith)) refl
+
+  pub below-grown : (n : ℕ) → (below n || ordinalAt e first len n d) ≡ below (n + 1)
+  below-grown n =
+      let a : ℕ → Bool = λ m. bit (ordinalMask (e .front) (m + 1)) weekday in
+      let b : ℕ → Bool = λ m. bit (ordinalMask (e .back) (m + 1)) weekday in
+      let x : ℕ = (d - 1) / 7 in
+      let y : ℕ = (len - d) / 7 in
+      regrouped (ltb x n && a x) (ltb y n && b y) (eqb x n && a n) (eqb y n && b n)
+      ∙ ap₂ _||_ (one-more (λ m. bit (ordinalMask (e .front) (m + 1)) weekday) x n) (one-more (λ m. bit (ordinalMask (e .back) (m + 1)) weekday) y n)
+
+  pub below-all : d ≤ len → len ≤ 31 → below 5 ≡ ordinalAllowed e d (len + 1 - d) weekday
+  below-all h l =
+      let g : len - d ≡ len + 1 - d - 1 = omega arith in
+      rw (lt-ltb ((d - 1) / 7) 5 (omega arith), lt-ltb ((len - d) / 7) 5 (omega arith))
+      (ap (λ (m : ℕ). bit (ordinalMask (e .front) ((d - 1) / 7 + 1)) weekday || bit (ordinalMask (e .back) (m / 7 + 1)) weekday) g)

@@ -12,7 +12,8 @@ use Rattle.masks.proofs.Counts.{count-same, count-at-most, count-parts, bits-be
 use Rattle.masks.proofs.MaskFroms.{bit-in-mask, bit-below-mask, bit-above-mask}
 use Rattle.masks.specs.Masks.{bit, maskFrom, bitsFrom, bitsBelow}
 use Rattle.frames.specs.Rule.{noLimit, inSet, placed}
-use Rattle.frames.specs.Months.{dayOf, InMonth}
+use Rattle.frames.specs.Months.{dayOf, InMonth, placeWanted}
+use Rattle.frames.specs.declared.Ends.{Ends}
 use Rattle.frames.specs.declared.Rule.{Rule}
 use Rattle.frames.proofs.MonthDays.{date-of-day, end-of-day}
 
@@ -63,7 +64,8 @@ module _ (t : ℕ → Bool) (base len n : ℕ) (h : n ≤ len) (short : len ≤ 
       omega (arith, a, b, c, z)
 
 module _ (f : Rule) (k n : ℕ) (i : InMonth k n) where
-  pub placed-by-bits : (s : ℕ) → s ≡ maskFrom (λ j. inSet f (dayOf k j)) (monthDays k) 1 → noLimit (f .positions) ≡ false → placed f (dayOf k n) ≡ (bit (f .positions .front) (bitsBelow s (n + 1)) || bit (f .positions .back) (bitsFrom s n))
+  pub placed-by-bits : (s : ℕ) → s ≡ maskFrom (λ j. inSet f (dayOf k j)) (monthDays k) 1 → noLimit (f .positions) ≡ false
+      → placed f (dayOf k n) ≡ (bit (f .positions .front) (bitsBelow s (n + 1)) || bit (f .positions .back) (bitsFrom s n))
   unfolding placed set
   placed-by-bits s e l =
       let short : monthDays k ≤ 31 = month-days-range k (i .month) .1 in
@@ -99,8 +101,9 @@ module _ (s len : ℕ) (short : len ≤ 31) where
   few-days z below = omega (arith, bits-in-two s (1 + len) (omega arith), few-below z, none-above below)
 
 -- the wanted places, counted from both ends of the set
-module _ (front back s all wanted : ℕ) (whole : all ≡ bitsFrom s 0) (both : (p : ℕ) → 1 ≤ p → p ≤ all → bit wanted p ≡ (bit front p || bit back (all + 1 - p))) where
-  place-of : (n : ℕ) → n ≤ 31 → (b : Bool) → bit s n ≡ b → (bit s n && bit wanted (bitsBelow s (n + 1))) ≡ (bit s n && (bit front (bitsBelow s (n + 1)) || bit back (bitsFrom s n)))
+module _ (positions : Ends) (s all wanted : ℕ) (whole : all ≡ bitsFrom s 0)
+    (both : (p : ℕ) → 1 ≤ p → p ≤ all → bit wanted p ≡ (bit (positions .front) p || bit (positions .back) (all + 1 - p))) where
+  place-of : (n : ℕ) → n ≤ 31 → (b : Bool) → bit s n ≡ b → (bit s n && bit wanted (bitsBelow s (n + 1))) ≡ placeWanted positions s n
   place-of n h false f = rw f refl
   place-of n h true t =
       let p : ℕ = bitsBelow s (n + 1) in
@@ -108,9 +111,9 @@ module _ (front back s all wanted : ℕ) (whole : all ≡ bitsFrom s 0) (both : 
       let a = bits-in-two s n (omega arith) in
       let b = bits-in-two s (n + 1) (omega arith) in
       let e : all + 1 - p ≡ bitsFrom s n = omega (arith, g, a, whole) in
-      rw t (both p (omega (arith, g)) (omega (arith, b, whole)) ∙ ap (λ (x : ℕ). bit front p || bit back x) e)
+      rw t (both p (omega (arith, g)) (omega (arith, b, whole)) ∙ ap (λ (x : ℕ). bit (positions .front) p || bit (positions .back) x) e)
 
-  pub place-wanted : (n : ℕ) → n ≤ 31 → (bit s n && bit wanted (bitsBelow s (n + 1))) ≡ (bit s n && (bit front (bitsBelow s (n + 1)) || bit back (bitsFrom s n)))
+  pub place-wanted : (n : ℕ) → n ≤ 31 → (bit s n && bit wanted (bitsBelow s (n + 1))) ≡ placeWanted positions s n
   place-wanted n h = place-of n h (bit s n) refl
 
 pub in-set : (s n : ℕ) (b : Bool) → bit s n ≡ true → (bit s n && b) ≡ b

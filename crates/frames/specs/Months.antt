@@ -1,14 +1,15 @@
 -- What a frame says of a whole month: all of its day test but a rule's start and a daily or weekly interval.
 use mathlib.Core.Bool.{Bool, true, false, cond, not, _&&_, _||_}
 use mathlib.Core.List.{List}
-use Prim.Native.Nat.{ℕ, _+_, _-_, _%_, _<_, _≤_}
+use Prim.Native.Nat.{ℕ, _+_, _-_, _/_, _%_, _<_, _≤_}
 use lib.Dec.{eqb}
 use lib.ListN.{getD}
 use Rattle.calendar.specs.Window.{monthFirst, monthDays}
-use Rattle.masks.specs.Masks.{bit, maskFrom}
+use Rattle.masks.specs.Masks.{bit, maskFrom, bitsFrom, bitsBelow}
 use Rattle.frames.specs.Cron.{cronDay}
 use Rattle.frames.specs.Numbers.{cronOf, ruleOf}
-use Rattle.frames.specs.Rule.{inSet, placed}
+use Rattle.frames.specs.Rule.{ordinalMask, inSet, placed}
+use Rattle.frames.specs.declared.Ends.{Ends}
 use Rattle.frames.specs.declared.Rule.{Rule}
 
 -- the interval of a rule that is neither daily nor weekly goes by the month
@@ -37,3 +38,13 @@ monthSet l start k = maskFrom (λ n. monthPart l start k (dayOf k n)) (monthDays
 -- a cron frame's month that is not in its mask: "minute, hour and month match and the day does"
 unfoldable pub monthOut : List ℕ → ℕ → Bool
 monthOut l k = eqb (getD l 0 0) 3 && not (bit (getD l 4 0) (k % 12 + 1))
+
+-- of a month of `len` days that begins on weekday `first`: day d is the (n + 1)-th of its weekday, from the front or from the end, and that ordinal has it
+abbrev pub ordinalAt : Ends → ℕ → ℕ → ℕ → ℕ → Bool
+ordinalAt e first len n d =
+    let weekday = (first + (d - 1)) % 7 in
+    eqb ((d - 1) / 7) n && bit (ordinalMask (e .front) (n + 1)) weekday || eqb ((len - d) / 7) n && bit (ordinalMask (e .back) (n + 1)) weekday
+
+-- day n of a day set, where one of the positions is its place
+abbrev pub placeWanted : Ends → ℕ → ℕ → Bool
+placeWanted positions set n = bit set n && (bit (positions .front) (bitsBelow set (n + 1)) || bit (positions .back) (bitsFrom set n))

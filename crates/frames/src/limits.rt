@@ -1,9 +1,8 @@
 // The limits of a rule on the days of a month, each as a mask of the days that it allows.
 ghost use mathlib.Core.Path.{_≡_};
-ghost use mathlib.Core.Bool.{_&&_, _||_};
-ghost use Prim.Native.Nat.{ℕ, _+_, _-_, _/_, _%_, _≤_, _<_};
-ghost use lib.Dec.{eqb};
+ghost use Prim.Native.Nat.{ℕ, _+_, _-_, _%_, _≤_, _<_};
 ghost use Rattle.masks.specs.Masks.{bit};
+ghost use Rattle.frames.specs.Months.{ordinalAt};
 ghost use Rattle.frames.specs.Rule.{noLimit, monthDayAllowed, ordinalMask, ordinalAllowed, weekdayAllowed};
 use crate::Ends;
 use crate::Rule;
@@ -49,7 +48,7 @@ fn ordinal_week(group: u64, n: u64, first: u64) -> u64
 // The days that ordinal n + 1 allows: of the seven days that it is counted in from the front, and of those from the end.
 fn ordinal_days(ordinals: Ends, n: u64, first: u64, len: u64) -> u64
     requires { ⌜ (n < 5) × (first < 7) × (28 ≤ len) × (len ≤ 31) ⌝ }
-    ensures { λ r. ⌜ ((d : ℕ) → 1 ≤ d → d ≤ len → bit r d ≡ (eqb ((d - 1) / 7) n && bit (ordinalMask (ordinals .front) (n + 1)) ((first + (d - 1)) % 7) || eqb ((len - d) / 7) n && bit (ordinalMask (ordinals .back) (n + 1)) ((first + (d - 1)) % 7))) ⌝ }
+    ensures { λ r. ⌜ ((d : ℕ) → 1 ≤ d → d ≤ len → bit r d ≡ ordinalAt ordinals first len n d) ⌝ }
 {
     let front = ordinal_week(ordinals.front, n, first) & (127 << (7 * n + 1));
     let back = ordinal_week(ordinals.back, n, first) & ((127 << (len - 7 * n)) >> 6);

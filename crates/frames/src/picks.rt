@@ -1,8 +1,9 @@
 // The places of the days in a day set, and the days that positions pick.
 ghost use mathlib.Core.Path.{_≡_};
-ghost use mathlib.Core.Bool.{false, cond, _&&_, _||_};
+ghost use mathlib.Core.Bool.{false, cond};
 ghost use Prim.Native.Nat.{_+_, _^_, _≤_, _<_};
-ghost use Rattle.masks.specs.Masks.{bit, maskFrom, withBit, bitsBelow, bitsFrom};
+ghost use Rattle.masks.specs.Masks.{bit, maskFrom, withBit};
+ghost use Rattle.frames.specs.Months.{placeWanted};
 use crate::Ends;
 use crate::turns;
 
@@ -19,7 +20,7 @@ fn with_place(wanted: u64, place: u64, picked: u64, n: u64) -> u64
 // The days that positions pick from a day set.
 pub(crate) fn picked(positions: Ends, set: u64, len: u64) -> u64
     requires { ⌜ (len ≤ 31) × (bit set 0 ≡ false) × (set < 2 ^ (1 + len)) ⌝ }
-    ensures { λ r. ⌜ r ≡ maskFrom (λ n. bit set n && (bit (positions .front) (bitsBelow set (n + 1)) || bit (positions .back) (bitsFrom set n))) len 1 ⌝ }
+    ensures { λ r. ⌜ r ≡ maskFrom (placeWanted positions set) len 1 ⌝ }
 {
     let wanted = turns::both_ends(positions, masks::count_from(set, 0));
     let mut picked = 0;

@@ -312,7 +312,10 @@ day-back-returns-2 : (t : ℕ) → day-back-lts.Need-returns-2 (
 day-back-returns-2 t c = let s = c .before .before .before .before .before .before in
     let a = s .args in
     let p = s .pre .1 in
-    all-passed-back (dayHeld (now (a .f))) (getD (now (a .f)) 14 0) _ (a .d) (sym (c .before .before .before .before .before .day-test .ensures) ∙ c .before .before .before .before .if1 .left) (c .before .before .before .counted-before .ensures) (p .0 .after) (small (a .k) (a .n) (a .d) (p .1) (p .2) .0) (c .before .if2 .taken)
+    let l = now (a .f) in
+    let out = sym (c .before .before .before .before .before .day-test .ensures) ∙ c .before .before .before .before .if1 .left in
+    let passed = c .before .before .before .counted-before .ensures in
+    all-passed-back (dayHeld l) (getD l 14 0) _ (a .d) out passed (p .0 .after) (small (a .k) (a .n) (a .d) (p .1) (p .2) .0) (c .before .if2 .taken)
 
 day-back-sub-back : (t : ℕ) → day-back-lts.Need-sub-back (
   day-test-reads.Asked,
@@ -404,7 +407,10 @@ day-back-returns-3 : (t : ℕ) → day-back-lts.Need-returns-3 (
 day-back-returns-3 t c = let s = c .before .before .before .before .before .before .before in
     let a = s .args in
     let p = s .pre .1 in
-    passed-back (dayHeld (now (a .f))) (getD (now (a .f)) 14 0) _ (a .d) (sym (c .before .before .before .before .before .before .day-test .ensures) ∙ c .before .before .before .before .before .if1 .left) (c .before .before .before .before .counted-before .ensures) (p .0 .after) (small (a .k) (a .n) (a .d) (p .1) (p .2) .0) _ (c .before .before .if2 .left) (c .day-back .ensures)
+    let l = now (a .f) in
+    let out = sym (c .before .before .before .before .before .before .day-test .ensures) ∙ c .before .before .before .before .before .if1 .left in
+    let passed = c .before .before .before .before .counted-before .ensures in
+    passed-back (dayHeld l) (getD l 14 0) _ (a .d) out passed (p .0 .after) (small (a .k) (a .n) (a .d) (p .1) (p .2) .0) _ (c .before .before .if2 .left) (c .day-back .ensures)
 
 day-back-sub-back-from-day : (t : ℕ) → day-back-lts.Need-sub-back-from-day (
   day-test-reads.Asked,
@@ -449,7 +455,10 @@ day-back-returns-4 : (t : ℕ) → day-back-lts.Need-returns-4 (
 day-back-returns-4 t c = let s = c .before .before .before .before .before .before .before in
     let a = s .args in
     let p = s .pre .1 in
-    passed-back (dayHeld (now (a .f))) (getD (now (a .f)) 14 0) _ (a .d) (sym (c .before .before .before .before .before .before .day-test .ensures) ∙ c .before .before .before .before .before .if1 .left) (c .before .before .before .before .counted-before .ensures) (p .0 .after) (small (a .k) (a .n) (a .d) (p .1) (p .2) .0) _ (c .before .before .if2 .left) (c .back-from-day .ensures)
+    let l = now (a .f) in
+    let out = sym (c .before .before .before .before .before .before .day-test .ensures) ∙ c .before .before .before .before .before .if1 .left in
+    let passed = c .before .before .before .before .counted-before .ensures in
+    passed-back (dayHeld l) (getD l 14 0) _ (a .d) out passed (p .0 .after) (small (a .k) (a .n) (a .d) (p .1) (p .2) .0) _ (c .before .before .if2 .left) (c .back-from-day .ensures)
 
 month-back-passing-mask-requires : (t : ℕ) → month-back-lts.Need-passing-mask-requires (
   passing-mask-reads.Asked,

@@ -173,7 +173,10 @@ day-step-returns-2 : (t : ℕ) → day-step-lts.Need-returns-2 (
 day-step-returns-2 t c = let s = c .before .before .before .before .before .before in
     let a = s .args in
     let p = s .pre .1 in
-    all-passed (dayHeld (now (a .f))) (a .d) _ (getD (now (a .f)) 14 0) (sym (c .before .before .before .before .before .day-test .ensures) ∙ c .before .before .before .before .if1 .left) (c .before .before .before .counted-from .ensures) (p .0 .before) (last-day-top (now (a .f)) (p .0 .ready)) (c .before .if2 .taken)
+    let l = now (a .f) in
+    let out = sym (c .before .before .before .before .before .day-test .ensures) ∙ c .before .before .before .before .if1 .left in
+    let passed = c .before .before .before .counted-from .ensures in
+    all-passed (dayHeld l) (a .d) _ (getD l 14 0) out passed (p .0 .before) (last-day-top l (p .0 .ready)) (c .before .if2 .taken)
 
 day-step-sub-on : (t : ℕ) → day-step-lts.Need-sub-on (
   day-test-reads.Asked,
@@ -257,7 +260,10 @@ day-step-returns-3 : (t : ℕ) → day-step-lts.Need-returns-3 (
 day-step-returns-3 t c = let s = c .before .before .before .before .before .before .before in
     let a = s .args in
     let p = s .pre .1 in
-    passed-on (dayHeld (now (a .f))) (a .d) _ (getD (now (a .f)) 14 0) (sym (c .before .before .before .before .before .before .day-test .ensures) ∙ c .before .before .before .before .before .if1 .left) (c .before .before .before .before .counted-from .ensures) (p .0 .before) (last-day-top (now (a .f)) (p .0 .ready)) _ (c .before .before .if2 .left) (c .day-step .ensures)
+    let l = now (a .f) in
+    let out = sym (c .before .before .before .before .before .before .day-test .ensures) ∙ c .before .before .before .before .before .if1 .left in
+    let passed = c .before .before .before .before .counted-from .ensures in
+    passed-on (dayHeld l) (a .d) _ (getD l 14 0) out passed (p .0 .before) (last-day-top l (p .0 .ready)) _ (c .before .before .if2 .left) (c .day-step .ensures)
 
 day-step-from-day-requires : (t : ℕ) → day-step-lts.Need-from-day-requires (
   day-test-reads.Asked,
@@ -290,7 +296,10 @@ day-step-returns-4 : (t : ℕ) → day-step-lts.Need-returns-4 (
 day-step-returns-4 t c = let s = c .before .before .before .before .before .before .before in
     let a = s .args in
     let p = s .pre .1 in
-    passed-on (dayHeld (now (a .f))) (a .d) _ (getD (now (a .f)) 14 0) (sym (c .before .before .before .before .before .before .day-test .ensures) ∙ c .before .before .before .before .before .if1 .left) (c .before .before .before .before .counted-from .ensures) (p .0 .before) (last-day-top (now (a .f)) (p .0 .ready)) _ (c .before .before .if2 .left) (c .from-day .ensures)
+    let l = now (a .f) in
+    let out = sym (c .before .before .before .before .before .before .day-test .ensures) ∙ c .before .before .before .before .before .if1 .left in
+    let passed = c .before .before .before .before .counted-from .ensures in
+    passed-on (dayHeld l) (a .d) _ (getD l 14 0) out passed (p .0 .before) (last-day-top l (p .0 .ready)) _ (c .before .before .if2 .left) (c .from-day .ensures)
 
 from-day-local-date-requires : (t : ℕ) → from-day-lts.Need-local-date-requires (
   local-date-reads.Asked,

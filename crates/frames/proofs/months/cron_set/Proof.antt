@@ -24,37 +24,41 @@ week-days-requires : tie.Need-week-days-requires
 week-days-requires c κs = rw (c .first-weekday .ensures) (weekday-at-most _)
 
 within-requires : tie.Need-within-requires
-within-requires c κs = omega (arith, c .before .before .before .before .before .month-days .ensures, days-at-most (c .before .before .before .before .before .before .args .k))
+within-requires c κs = let k = c .before .before .before .before .before .before .args .k in
+    omega (arith, c .before .before .before .before .before .month-days .ensures, days-at-most k)
 
 returns : tie.Need-returns
 unfolding cronDayAt
 returns c = let s = c .before .before .before .before .before .before .before in
     let a = s .args in
     let len = c .before .before .before .before .before .before .month-days in
-    let w = c .before .before .before .before .before .first-weekday .ensures in
+    let first = c .before .before .before .before .before .first-weekday .ensures in
+    let week = c .before .before .before .before .week-days .ensures in
     c .within .ensures
     ∙ month-same _ (λ n. cronDay (a .f) (dayOf (a .k) n)) (a .k) (len .result) (len .ensures)
     (λ n i.
+    let w = week n (i .low) (omega (arith, i .high, days-at-most (a .k))) ∙ ap (λ (x : ℕ). bit (a .f .weekdays) ((x + (n - 1)) % 7)) first in
     bit-of-both (a .f .days) _ n
-    ∙ ap (λ (b : Bool). bit (a .f .days) n || b)
-    (c .before .before .before .before .week-days .ensures n (i .low) (omega (arith, i .high, days-at-most (a .k))) ∙ ap (λ (x : ℕ). bit (a .f .weekdays) ((x + (n - 1)) % 7)) w)
+    ∙ ap (λ (b : Bool). bit (a .f .days) n || b) w
     ∙ sym (cron-day-at (a .f) (a .k) n i ∙ simp (s .pre .1, both-flags (a .f .flags) (c .before .before .if1 .taken))))
 
 within-requires-2 : tie.Need-within-requires-2
-within-requires-2 c κs = omega (arith, c .before .before .before .before .before .month-days .ensures, days-at-most (c .before .before .before .before .before .before .args .k))
+within-requires-2 c κs = let k = c .before .before .before .before .before .before .args .k in
+    omega (arith, c .before .before .before .before .before .month-days .ensures, days-at-most k)
 
 returns-2 : tie.Need-returns-2
 unfolding cronDayAt
 returns-2 c = let s = c .before .before .before .before .before .before .before in
     let a = s .args in
     let len = c .before .before .before .before .before .before .month-days in
-    let w = c .before .before .before .before .before .first-weekday .ensures in
+    let first = c .before .before .before .before .before .first-weekday .ensures in
+    let week = c .before .before .before .before .week-days .ensures in
     c .within2 .ensures
     ∙ month-same _ (λ n. cronDay (a .f) (dayOf (a .k) n)) (a .k) (len .result) (len .ensures)
     (λ n i.
+    let w = week n (i .low) (omega (arith, i .high, days-at-most (a .k))) ∙ ap (λ (x : ℕ). bit (a .f .weekdays) ((x + (n - 1)) % 7)) first in
     bit-of-shared (a .f .days) _ n
-    ∙ ap (λ (b : Bool). bit (a .f .days) n && b)
-    (c .before .before .before .before .week-days .ensures n (i .low) (omega (arith, i .high, days-at-most (a .k))) ∙ ap (λ (x : ℕ). bit (a .f .weekdays) ((x + (n - 1)) % 7)) w)
+    ∙ ap (λ (b : Bool). bit (a .f .days) n && b) w
     ∙ sym (cron-day-at (a .f) (a .k) n i ∙ simp (s .pre .1, not-both-flags (a .f .flags) (c .before .before .if1 .left))))
 
 pub cron-set-spec : {M : Type 1} → statement M

@@ -1,7 +1,7 @@
 -- The two limits, day by day.
 use mathlib.Core.Bool.{_&&_}
 use mathlib.Core.Path.{_≡_, sym, ap, ap₂, _∙_}
-use Prim.Native.Nat.{ℕ, _+_, _-_, _%_}
+use Prim.Native.Nat.{ℕ, _+_, _-_, _%_, _≤_}
 use native.Mathlib.Omega.{arith}
 use Rattle.calendar.proofs.Windows.{month-days-range}
 use Rattle.masks.proofs.WithBits.{bit-of-shared}
@@ -39,8 +39,9 @@ returns c = let a = c .before .before .before .before .before .args in
     c .within .ensures
     ∙ month-same _ (λ n. inSet (a .f) (dayOf (a .k) n)) (a .k) (len .result) (len .ensures)
     (λ n i.
+    let h : n ≤ len .result = omega (arith, i .high, len .ensures) in
     bit-of-shared _ _ n
-    ∙ ap₂ _&&_ (c .before .before .before .days-allowed .ensures n (i .low) (omega (arith, i .high, len .ensures))) (c .before .weekdays-allowed .ensures n (i .low) (omega (arith, i .high, len .ensures)))
+    ∙ ap₂ _&&_ (c .before .before .before .days-allowed .ensures n (i .low) h) (c .before .weekdays-allowed .ensures n (i .low) h)
     ∙ (rw (len .ensures, w) (sym (in-set-at (a .f) (a .k) n i))))
 
 pub day-set-spec : {M : Type 1} → statement M

@@ -22,7 +22,9 @@ over-whole-requires c κs = search needs
 
 returns-3 : tie.Need-returns-3
 unfolding monthCounts
-returns-3 c = simp (c .over-whole .ensures, c .before .less .ensures, ne-eqb _ _ (c .before .before .before .before .if1 .left), ne-eqb _ _ (c .before .before .if2 .left))
+returns-3 c = let p = ne-eqb _ _ (c .before .before .before .before .if1 .left) in
+    let q = ne-eqb _ _ (c .before .before .if2 .left) in
+    simp (c .over-whole .ensures, c .before .less .ensures, p, q)
 
 pub month-counts-spec : {M : Type 1} → statement M
 month-counts-spec =

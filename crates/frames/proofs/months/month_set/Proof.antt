@@ -30,7 +30,8 @@ cron-of-requires c κs = search needs
 
 cron-set-requires : tie.Need-cron-set-requires
 cron-set-requires c κs = let a = c .before .before .before .before .before .before .args in
-    rw (c .cron-of .ensures) (omega arith, month-in (now (a .f)) (a .k) (sym (c .before .before .before .before .month-out .ensures) ∙ c .before .before .before .if2 .left) (c .before .if3 .taken))
+    let here = sym (c .before .before .before .before .month-out .ensures) ∙ c .before .before .before .if2 .left in
+    rw (c .cron-of .ensures) (omega arith, month-in (now (a .f)) (a .k) here (c .before .if3 .taken))
 
 returns-3 : tie.Need-returns-3
 unfolding monthPart monthSet
@@ -47,7 +48,9 @@ rule-set-requires c κs = search needs
 
 returns-4 : tie.Need-returns-4
 unfolding monthPart monthSet
-returns-4 c = rw (ne-eqb _ _ (c .before .before .before .before .if3 .left), eq-eqb _ _ (c .before .before .if4 .taken)) (rw (c .before .rule-of .ensures) at (c .rule-set .ensures))
+returns-4 c = let p = ne-eqb _ _ (c .before .before .before .before .if3 .left) in
+    let q = eq-eqb _ _ (c .before .before .if4 .taken) in
+    rw (p, q) (rw (c .before .rule-of .ensures) at (c .rule-set .ensures))
 
 returns-5 : tie.Need-returns-5
 unfolding monthPart monthSet

@@ -33,23 +33,33 @@ no-limit-requires c κs = search needs
 returns-2 : tie.Need-returns-2
 returns-2 c = let a = c .before .before .before .before .before .before .args in
     let m = c .before .before .before .before .before .month-counts in
+    let counted = sym (m .ensures) ∙ not-false (m .result) (c .before .before .before .before .if1 .left) in
+    let free = sym (c .before .no-limit .ensures) ∙ c .if2 .taken in
     c .before .before .before .day-set .ensures
     ∙ month-same _ (λ n. rulePart (a .f) (a .start) (a .k) (dayOf (a .k) n)) (a .k) _ refl
-    (λ n i. free-part (a .f) (a .start) (a .k) n (sym (m .ensures) ∙ not-false (m .result) (c .before .before .before .before .if1 .left)) i (sym (c .before .no-limit .ensures) ∙ c .if2 .taken))
+    (λ n i. free-part (a .f) (a .start) (a .k) n counted i free)
 
 month-days-requires : tie.Need-month-days-requires
 month-days-requires c κs = search needs
 
 picked-requires : tie.Need-picked-requires
 picked-requires c κs = let a = c .before .before .before .before .before .before .before .args in
-    (omega (arith, c .month-days .ensures, days-at-most (a .k)), ap (λ (x : ℕ). bit x 0) (c .before .before .before .before .day-set .ensures) ∙ bit-below-mask (λ n. inSet (a .f) (dayOf (a .k) n)) _ 1 0 (omega arith), rw (c .month-days .ensures, c .before .before .before .before .day-set .ensures) (mask-from-below (λ n. inSet (a .f) (dayOf (a .k) n)) (monthDays (a .k)) 1))
+    let set = c .before .before .before .before .day-set .ensures in
+    let e = c .month-days .ensures in (
+      omega (arith, e, days-at-most (a .k)),
+      ap (λ (x : ℕ). bit x 0) set ∙ bit-below-mask (λ n. inSet (a .f) (dayOf (a .k) n)) _ 1 0 (omega arith),
+      rw (e, set) (mask-from-below (λ n. inSet (a .f) (dayOf (a .k) n)) (monthDays (a .k)) 1),
+    )
 
 returns-3 : tie.Need-returns-3
 returns-3 c = let a = c .before .before .before .before .before .before .before .before .args in
     let m = c .before .before .before .before .before .before .before .month-counts in
+    let counted = sym (m .ensures) ∙ not-false (m .result) (c .before .before .before .before .before .before .if1 .left) in
+    let limited = sym (c .before .before .before .no-limit .ensures) ∙ c .before .before .if2 .left in
+    let set = c .before .before .before .before .before .day-set .ensures in
     c .picked .ensures
     ∙ month-same _ (λ n. rulePart (a .f) (a .start) (a .k) (dayOf (a .k) n)) (a .k) _ (c .before .month-days .ensures)
-    (λ n i. picked-part (a .f) (a .start) (a .k) n (sym (m .ensures) ∙ not-false (m .result) (c .before .before .before .before .before .before .if1 .left)) i _ (c .before .before .before .before .before .day-set .ensures) (sym (c .before .before .before .no-limit .ensures) ∙ c .before .before .if2 .left))
+    (λ n i. picked-part (a .f) (a .start) (a .k) n counted i _ set limited)
 
 pub rule-set-spec : {M : Type 1} → statement M
 rule-set-spec =

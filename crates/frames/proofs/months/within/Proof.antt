@@ -20,7 +20,8 @@ rem-result : tie.Need-rem-result
 rem-result c = rw (one-shifted (c .args .len) (omega arith)) (omega (arith, pow-pos (c .args .len)))
 
 mul-result : tie.Need-mul-result
-mul-result c = rw (one-shifted (c .args .len) (omega arith)) (omega (arith, mod-lt (c .args .mask / 2 ^ 1) (pow-pos (c .args .len)), small-power (c .args .len) (omega arith)))
+mul-result c = let n = c .args .len in
+    rw (one-shifted n (omega arith)) (omega (arith, mod-lt (c .args .mask / 2 ^ 1) (pow-pos n), small-power n (omega arith)))
 
 returns : tie.Need-returns
 returns c = rw (one-shifted (c .args .len) (omega arith)) (sym (mask-of-own-bits (c .args .mask) (c .args .len) 1))

@@ -1,5 +1,5 @@
 -- The loop's invariant: the picked days so far, and how many days of the set were passed.
-use mathlib.Core.Bool.{_&&_}
+use mathlib.Core.Bool.{Bool, _&&_}
 use mathlib.Core.Logic.{⊎-elim}
 use mathlib.Core.Path.{_≡_, sym, ap, _∙_}
 use Prim.Native.Nat.{ℕ, _+_, _-_, _≤_}
@@ -13,8 +13,11 @@ use Rattle.frames.proofs.Places.{few-passed, passed-on, passed-by, few-
 use Rattle.frames.proofs.picks.picked.Statement.{statement}
 use Rattle.frames.proofs.picks.picked.Tie as tie
 
+abbrev wants : ℕ → ℕ → ℕ → Bool
+wants set wanted j = bit set j && bit wanted (bitsBelow set (j + 1))
+
 abbrev Inv-loop : tie.InvT-loop
-Inv-loop set len wanted picked₀ passed₀ n₀ picked passed n = (1 ≤ n) × (n ≤ len + 1) × (passed ≡ bitsBelow set n) × (picked ≡ maskFrom (λ j. bit set j && bit wanted (bitsBelow set (j + 1))) (n - 1) 1)
+Inv-loop set len wanted picked₀ passed₀ n₀ picked passed n = (1 ≤ n) × (n ≤ len + 1) × (passed ≡ bitsBelow set n) × (picked ≡ maskFrom (wants set wanted) (n - 1) 1)
 
 abbrev μ-loop : tie.MeasureT-loop
 μ-loop set len wanted picked₀ passed₀ n₀ picked passed n = len + 1 - n
@@ -58,8 +61,11 @@ loop-again c = let a = c .before .before .before .before .before .before .args i
       omega arith,
       ⊎-elim (λ t. t .3 ∙ here (e ∙ t .0 .taken)) (λ t. t .2 ∙ passed-by (a .set) (v .n) (v .passed) h (w .2) (e ∙ t .0 .left)) (c .if1 .came),
       ⊎-elim
-          (λ t. t .2 ∙ t .1 .ensures ∙ built-next (λ j. bit (a .set) j && bit wanted (bitsBelow (a .set) (j + 1))) (v .n) (v .picked) (w .0) h (w .3) _ (in-set (a .set) (v .n) _ (e ∙ t .0 .taken) ∙ ap (bit wanted) (sym (here (e ∙ t .0 .taken)))))
-          (λ t. t .1 ∙ built-without (λ j. bit (a .set) j && bit wanted (bitsBelow (a .set) (j + 1))) (v .n) (v .picked) (w .0) h (w .3) (not-in-set (a .set) (v .n) _ (e ∙ t .0 .left)))
+          (λ t.
+          let b = e ∙ t .0 .taken in
+          let p = in-set (a .set) (v .n) _ b ∙ ap (bit wanted) (sym (here b)) in
+          t .2 ∙ t .1 .ensures ∙ built-next (wants (a .set) wanted) (v .n) (v .picked) (w .0) h (w .3) _ p)
+          (λ t. t .1 ∙ built-without (wants (a .set) wanted) (v .n) (v .picked) (w .0) h (w .3) (not-in-set (a .set) (v .n) _ (e ∙ t .0 .left)))
           (c .if1 .came),
     )
 
@@ -67,8 +73,8 @@ returns : tie.Need-returns Inv-loop μ-loop
 returns c = let a = c .before .before .before .before .args in
     let ends = c .before .before .both-ends in
     built-whole _ _ _ _ (c .before .loop .inv .3) (omega arith)
-    ∙ mask-from-same (λ j. bit (a .set) j && bit (ends .result) (bitsBelow (a .set) (j + 1))) _ (a .len) 1
-    (λ n l h. place-wanted (a .positions .front) (a .positions .back) (a .set) _ (ends .result) (c .before .before .before .count-from .ensures) (ends .ensures) n (omega arith))
+    ∙ mask-from-same (wants (a .set) (ends .result)) _ (a .len) 1
+    (λ n l h. place-wanted (a .positions) (a .set) _ (ends .result) (c .before .before .before .count-from .ensures) (ends .ensures) n (omega arith))
 
 pub picked-spec : {M : Type 1} → statement M
 picked-spec =

@@ -11,7 +11,11 @@ use Rattle.frames.proofs.turns.both_ends.Tie as tie
 
 returns : tie.Need-returns
 returns c = let a = c .before .before .args in
-    λ n l h. sym (ap (λ (m : ℕ). bit (a .wanted .front) n || bit m (a .len + 1 - n)) (c .if1 .taken) ∙ ap (λ (b : Bool). bit (a .wanted .front) n || b) (bit-of-zero (a .len + 1 - n)) ∙ or-false (bit (a .wanted .front) n))
+    λ n l h.
+    sym
+    (ap (λ (m : ℕ). bit (a .wanted .front) n || bit m (a .len + 1 - n)) (c .if1 .taken)
+    ∙ ap (λ (b : Bool). bit (a .wanted .front) n || b) (bit-of-zero (a .len + 1 - n))
+    ∙ or-false (bit (a .wanted .front) n))
 
 turned-requires : tie.Need-turned-requires
 turned-requires c κs = search needs
