@@ -4,7 +4,7 @@ use mathlib.Core.List.{List}
 use mathlib.Core.Path.{_≡_, refl, sym, ap, _∙_}
 use Prim.Native.Nat.{ℕ, _+_, _-_, _<_, _≤_, min}
 use native.Mathlib.Omega.{arith}
-use Rattle.calendar.proofs.Leasts.{Least, Last, least-from, last-from, least-unique, last-unique, least-none, last-none, least-after, last-before}
+use Rattle.calendar.proofs.Leasts.{Least, Last, least-from, last-from, least-unique, last-unique}
 use Rattle.calendar.proofs.Windows.{local-date-holds}
 use Rattle.calendar.specs.Below.{leastFrom, lastFrom}
 use Rattle.calendar.specs.Window.{localDate}
@@ -79,25 +79,3 @@ pub not-this-day : (l : List ℕ) (d : ℕ) → d < 36525 → (leastDay l d (d +
 not-this-day l d h n =
     let a = least-day-least l d (d + 1) (omega arith) (omega arith) in
     a .fails d (omega arith) (omega (arith, a .from))
-
--- a range searched in two parts, the lower first
-module _ (test : ℕ → Bool) (low mid high r : ℕ) (a : Least test low mid r) where
-  pub least-short : low ≤ high → high ≤ r → Least test low high high
-  least-short l h = least-none test low high l (λ j b c. a .fails j b (omega arith))
-
-  pub least-wider : r < mid → r < high → Least test low high r
-  least-wider m h = record { from = a .from; to = omega arith; passes = λ g. a .passes m; fails = a .fails }
-
-  pub least-on : (s : ℕ) → mid ≤ r → Least test mid high s → Least test low high s
-  least-on s m b = least-after test low mid high s (omega (arith, a .from, a .to)) (λ j c d. a .fails j c (omega arith)) b
-
--- and the upper first
-module _ (test : ℕ → Bool) (low mid high r : ℕ) (a : Last test mid high r) where
-  pub last-short : low ≤ high → r ≤ low → Last test low high low
-  last-short l h = last-none test low high l (λ j b c. a .fails j (omega arith) c)
-
-  pub last-wider : mid < r → low ≤ r → Last test low high r
-  last-wider m h = record { from = h; to = a .to; passes = λ g. a .passes m; fails = a .fails }
-
-  pub last-on : (s : ℕ) → r ≤ mid → Last test low mid s → Last test low high s
-  last-on s m b = last-before test low mid high s (omega (arith, a .from, a .to)) (λ j c d. a .fails j (omega arith) d) b

@@ -29,10 +29,6 @@ earlier-month j k d h l m =
 pub month-end-top : (k : ℕ) → k < 1200 → monthFirst k + monthDays k ≤ 36525
 month-end-top k h = omega (arith, month-first-next k h, month-first-mono (k + 1) 1200 (omega arith) (omega arith), month-first-end)
 
--- day n of month k lies in it
-pub holds-day : (k n d : ℕ) → InMonth k n → d ≡ dayOf k n → Holds k d
-holds-day k n d i e = record { month = i .month; from = omega (arith, e); to = omega (arith, e, i .low, i .high) }
-
 module _ (l : List ℕ) (k d : ℕ) (u : Up l k d) where
   -- in the walk's last month its last day comes
   pub up-last : getD l 13 0 ≤ k → getD l 14 0 < monthFirst k + monthDays k

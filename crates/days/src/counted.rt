@@ -1,7 +1,7 @@
 // The days that the interval of a daily or weekly rule leaves out, passed over at once.
 ghost use mathlib.Core.Path.{_≡_};
 ghost use mathlib.Core.Bool.{true, cond};
-ghost use Prim.Native.Nat.{_+_, _-_, _*_, _/_, _%_, _≤_, _<_};
+ghost use Prim.Native.Nat.{_+_, _-_, _*_, _/_, _≤_, _<_};
 ghost use lib.ListN.{getD};
 ghost use Rattle.frames.specs.Numbers.{dayHeld};
 ghost use Rattle.days.specs.Steps.{Passed};

@@ -1,7 +1,7 @@
 -- The limits of a rule where one of their parts is not given.
 use mathlib.Core.Bool.{true, false, _||_, and-false, or-false}
 use mathlib.Core.Path.{_≡_, refl}
-use Prim.Native.Nat.{ℕ, _-_, _/_, _^_}
+use Prim.Native.Nat.{ℕ, _-_, _^_}
 use native.Mathlib.Nat.{zero-div}
 use borrow.Author.Tests.{eqb-true}
 use lib.Dec.{eqb}

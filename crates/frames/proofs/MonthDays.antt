@@ -1,15 +1,14 @@
 -- The days of a month of the window, by their day of month.
 use mathlib.Core.Logic.{dite}
 use mathlib.Core.Path.{_≡_, refl, sym, ap}
-use Prim.Native.Nat.{ℕ, _+_, _-_, _/_, _%_, _<_, _≤_}
+use Prim.Native.Nat.{ℕ, _+_, _-_, _%_, _<_, _≤_}
 use native.Mathlib.Decide.{decLt}
 use native.Mathlib.Omega.{arith}
 use borrow.Author.Tests.{le-ltb}
 use Rattle.calendar.proofs.Weekdays.{local-weekday, weekday-below}
-use Rattle.calendar.proofs.Windows.{InWindow, local-date-is, in-window-below, month-days-range, month-first-mono, month-first-end}
+use Rattle.calendar.proofs.Windows.{InWindow, local-date-is, month-days-range, month-first-mono, month-first-end}
 use Rattle.calendar.specs.Calendar.{weekdayOf}
-use Rattle.calendar.specs.Iso.{mondayOf}
-use Rattle.calendar.specs.Window.{monthFirst, monthDays, localDate, localWeekday, localWeek, fromEnd}
+use Rattle.calendar.specs.Window.{monthFirst, monthDays, localDate, localWeekday, fromEnd}
 use Rattle.calendar.specs.declared.year.MonthDay.{MonthDay}
 use Rattle.frames.specs.Months.{dayOf, InMonth}
 
@@ -44,9 +43,6 @@ module _ (k n : ℕ) (i : InMonth k n) where
   placed : InWindow (dayOf k n) (record { month = k; day = n })
   placed = record { last = i .month; low = i .low; high = i .high; whole = refl }
 
-  pub day-below : dayOf k n < 36525
-  day-below = in-window-below (dayOf k n) placed
-
   pub date-of-day : localDate (dayOf k n) ≡ record { month = k; day = n }
   date-of-day = sym (local-date-is (dayOf k n) placed)
 
@@ -63,7 +59,3 @@ module _ (k n : ℕ) (i : InMonth k n) where
   pub weekday-of-day : localWeekday (dayOf k n) ≡ (localWeekday (monthFirst k) + (n - 1)) % 7
   unfolding localWeekday weekdayOf
   weekday-of-day = omega arith
-
-  pub week-of-day : localWeek (dayOf k n) ≡ (730119 + dayOf k n) / 7
-  unfolding localWeek mondayOf weekdayOf
-  week-of-day = omega arith

@@ -71,9 +71,6 @@ pub built-next : (test : ℕ → Bool) (n set : ℕ) → 1 ≤ n → n ≤ 31 �
     → cond b (withBit set n) set ≡ maskFrom test (n + 1 - 1) 1
 built-next test n set l h e b t = rw (built test n l h, t, e)
 
-pub built-with : (test : ℕ → Bool) (n set : ℕ) → 1 ≤ n → n ≤ 31 → set ≡ maskFrom test (n - 1) 1 → test n ≡ true → withBit set n ≡ maskFrom test (n + 1 - 1) 1
-built-with test n set l h e t = built-next test n set l h e true t
-
 pub built-without : (test : ℕ → Bool) (n set : ℕ) → 1 ≤ n → n ≤ 31 → set ≡ maskFrom test (n - 1) 1 → test n ≡ false → set ≡ maskFrom test (n + 1 - 1) 1
 built-without test n set l h e t = built-next test n set l h e false t
 

@@ -1,5 +1,5 @@
 -- No limit, or days counted from both ends.
-use mathlib.Core.Path.{_≡_, sym, _∙_}
+use mathlib.Core.Path.{sym, _∙_}
 use native.Mathlib.Omega.{arith}
 use Rattle.frames.proofs.Allowed.{any-day, given-day}
 use Rattle.frames.proofs.MonthSets.{whole-bit}

@@ -1,6 +1,6 @@
 -- The weekdays of the ordinal, cut with the seven days that it is counted in.
-use mathlib.Core.Bool.{Bool, _&&_, _||_, and-comm}
-use mathlib.Core.Path.{_≡_, ap, ap₂, _∙_}
+use mathlib.Core.Bool.{_&&_, _||_, and-comm}
+use mathlib.Core.Path.{ap₂, _∙_}
 use Prim.Native.Nat.{_+_, _-_, _/_, _%_}
 use native.Mathlib.Omega.{arith}
 use lib.Dec.{eqb}

@@ -1,5 +1,5 @@
 -- The byte of an ordinal is a shifted part of the group.
-use mathlib.Core.Path.{_≡_, sym, ap, _∙_}
+use mathlib.Core.Path.{_≡_, ap, _∙_}
 use Prim.Native.Nat.{ℕ, _+_, _-_, _/_, _%_, _^_}
 use native.Mathlib.Omega.{arith}
 use Rattle.masks.specs.Masks.{bit}

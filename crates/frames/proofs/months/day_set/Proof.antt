@@ -1,12 +1,11 @@
 -- The two limits, day by day.
 use mathlib.Core.Bool.{_&&_}
-use mathlib.Core.Path.{_≡_, sym, ap, ap₂, _∙_}
-use Prim.Native.Nat.{ℕ, _+_, _-_, _%_, _≤_}
+use mathlib.Core.Path.{sym, ap₂, _∙_}
+use Prim.Native.Nat.{_-_, _≤_}
 use native.Mathlib.Omega.{arith}
 use Rattle.calendar.proofs.Windows.{month-days-range}
 use Rattle.masks.proofs.WithBits.{bit-of-shared}
-use Rattle.masks.specs.Masks.{bit}
-use Rattle.frames.specs.Rule.{monthDayAllowed, weekdayAllowed, inSet}
+use Rattle.frames.specs.Rule.{inSet}
 use Rattle.frames.specs.Months.{dayOf}
 use Rattle.frames.proofs.MonthDays.{days-at-most, weekday-at-most}
 use Rattle.frames.proofs.MonthSets.{month-same, in-set-at}

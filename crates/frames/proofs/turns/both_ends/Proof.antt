@@ -1,6 +1,6 @@
 -- The front alone, or both.
 use mathlib.Core.Bool.{Bool, _||_, or-false}
-use mathlib.Core.Path.{_≡_, sym, ap, _∙_}
+use mathlib.Core.Path.{sym, ap, _∙_}
 use Prim.Native.Nat.{ℕ, _+_, _-_}
 use Rattle.masks.proofs.Bits.{bit-of-zero}
 use Rattle.masks.proofs.WithBits.{bit-of-both}

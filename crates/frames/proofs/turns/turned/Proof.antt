@@ -1,13 +1,11 @@
 -- The reversed bits, moved down to the month's own and one up.
 use mathlib.Core.Path.{_≡_, ap, _∙_}
-use Prim.Native.Nat.{ℕ, _+_, _-_, _*_, _/_, _^_}
+use Prim.Native.Nat.{_+_, _-_, _/_, _^_}
 use native.Mathlib.Nat.{div-le-self}
 use native.Mathlib.Omega.{arith}
 use Rattle.masks.proofs.Bits.{bit-of-quotient, bit-of-multiple}
 use Rattle.masks.specs.Masks.{bit}
-use lib.Dec.{leb}
 use borrow.Author.Tests.{le-leb}
-use mathlib.Core.Bool.{Bool, _&&_}
 use borrow.Author.Needs.{needs}
 use Rattle.frames.proofs.turns.turned.Statement.{statement}
 use Rattle.frames.proofs.turns.turned.Tie as tie
