@@ -5,6 +5,7 @@ use Prim.Native.Nat.{ℕ, zero, suc, _+_, _-_, _*_, _%_}
 use lib.Dec.{ltb, eqb}
 use lib.IntN.{ℤ, pos, negsuc}
 use lib.ListN.{getD, take}
+use Rattle.signed.specs.Bias.{allDays}
 use Rattle.calendar.specs.Below.{within}
 use Rattle.calendar.specs.declared.date.Date.{Date}
 use Rattle.calendar.specs.declared.date.Dated.{Dated}
@@ -50,9 +51,12 @@ yearStart y = yearsBefore (y - 1)
 unfoldable pub dayOf : ℕ → ℕ → ℕ → ℕ
 dayOf y m d = yearStart y + monthStart (leapYear y) m + (d - 1)
 
+abbrev pub lastYear : ℕ
+lastYear = 9999
+
 -- "Dates run from 0001-01-01 to 9999-12-31."
 unfoldable pub validDate : ℕ → ℕ → ℕ → Bool
-validDate y m d = within 1 9999 y && within 1 (monthLength (leapYear y) m) d
+validDate y m d = within 1 lastYear y && within 1 (monthLength (leapYear y) m) d
 
 -- the day of a date, or outside
 unfoldable pub dayOfDate : ℕ → ℕ → ℕ → Day
@@ -83,9 +87,9 @@ dateOf n =
     let q = monthDay (leapYear (p .year)) (p .day) in
     record { year = p .year; month = q .month; day = q .day }
 
--- the date of a day, or outside: 9999-12-31 is day 3,652,058
+-- the date of a day, or outside
 unfoldable pub dateOfDay : ℕ → Dated
-dateOfDay n = cond (ltb n 3652059) (Dated.Is (dateOf n)) Dated.Outside
+dateOfDay n = cond (ltb n allDays) (Dated.Is (dateOf n)) Dated.Outside
 
 -- "Weekday (Sunday 0) is the remainder, never negative, of day + 4 by 7": whole weeks are added to a negative day until it is not
 unfoldable pub weekdayOfDay : ℤ → ℕ

@@ -2,8 +2,9 @@
 use mathlib.Core.Bool.{Bool, cond, _&&_}
 use Prim.Native.Nat.{ℕ, _+_, _-_, _*_, _/_, _%_}
 use lib.Dec.{leb, ltb}
+use Rattle.signed.specs.Bias.{allDays}
 use Rattle.calendar.specs.Below.{within}
-use Rattle.calendar.specs.Calendar.{dayOf, yearDay, weekdayOf}
+use Rattle.calendar.specs.Calendar.{dayOf, yearDay, weekdayOf, lastYear}
 use Rattle.calendar.specs.declared.date.Day.{Day}
 use Rattle.calendar.specs.declared.iso.IsoDate.{IsoDate}
 use Rattle.calendar.specs.declared.iso.IsoDated.{IsoDated}
@@ -25,7 +26,7 @@ dayOfWeek y w d = isoStart y + 7 * (w - 1) + (d - 1)
 
 -- "ISO dates (year, week, weekday 1 to 7). 9999-W52-6 is past the range and is refused."
 unfoldable pub validIso : ℕ → ℕ → ℕ → Bool
-validIso y w d = within 1 9999 y && (within 1 (isoWeeks y) w && (within 1 7 d && ltb (dayOfWeek y w d) 3652059))
+validIso y w d = within 1 lastYear y && (within 1 (isoWeeks y) w && (within 1 7 d && ltb (dayOfWeek y w d) allDays))
 
 -- the day of an ISO date, or outside
 unfoldable pub dayOfIso : ℕ → ℕ → ℕ → Day
@@ -45,4 +46,4 @@ isoOf n =
 
 -- the ISO date of a day, or outside
 unfoldable pub isoOfDay : ℕ → IsoDated
-isoOfDay n = cond (ltb n 3652059) (IsoDated.Is (isoOf n)) IsoDated.Outside
+isoOfDay n = cond (ltb n allDays) (IsoDated.Is (isoOf n)) IsoDated.Outside

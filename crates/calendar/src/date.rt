@@ -3,6 +3,10 @@ ghost use mathlib.Core.Path.{_≡_};
 ghost use Rattle.calendar.specs.Calendar.{dayOfDate, dateOfDay};
 use crate::year;
 
+pub const LAST_YEAR: u64 = 9999;
+// 9999-12-31.
+pub const LAST_DAY: u64 = signed::DAYS - 1;
+
 pub struct Date {
     pub year: u64,
     pub month: u64,
@@ -27,7 +31,7 @@ pub fn day_of_date(year: u64, month: u64, day: u64) -> Day
     if year < 1 {
         return Day::Outside;
     }
-    if 9999 < year {
+    if LAST_YEAR < year {
         return Day::Outside;
     }
     if day < 1 {
@@ -43,7 +47,7 @@ pub fn day_of_date(year: u64, month: u64, day: u64) -> Day
 pub fn date_of_day(n: u64) -> Dated
     ensures { λ r. ⌜ r ≡ dateOfDay n ⌝ }
 {
-    if 3652058 < n {
+    if LAST_DAY < n {
         return Dated::Outside;
     }
     let place = year::year_day(n);

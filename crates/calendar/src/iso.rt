@@ -1,7 +1,10 @@
 // ISO week dates: weeks start on Monday, and week 1 of a year holds its 4 January.
 ghost use mathlib.Core.Path.{_≡_};
-ghost use Prim.Native.Nat.{_+_, _≤_};
+ghost use Prim.Native.Nat.{_+_, _<_, _≤_};
+ghost use Rattle.calendar.specs.Calendar.{lastYear};
+ghost use Rattle.signed.specs.Bias.{allDays};
 ghost use Rattle.calendar.specs.Iso.{isoStart, isoWeeks, isoYear, dayOfIso, isoOfDay};
+use crate::date;
 use crate::date::Day;
 use crate::year;
 
@@ -27,7 +30,7 @@ fn week_one(year: u64) -> u64
 }
 
 fn weeks(year: u64) -> u64
-    requires { ⌜ (1 ≤ year) × (year ≤ 9999) ⌝ }
+    requires { ⌜ (1 ≤ year) × (year ≤ lastYear) ⌝ }
     ensures { λ r. ⌜ r ≡ isoWeeks year ⌝ }
 {
     (week_one(year + 1) - week_one(year)) / 7
@@ -39,7 +42,7 @@ pub fn day_of_iso(year: u64, week: u64, weekday: u64) -> Day
     if year < 1 {
         return Day::Outside;
     }
-    if 9999 < year {
+    if date::LAST_YEAR < year {
         return Day::Outside;
     }
     if week < 1 {
@@ -55,7 +58,7 @@ pub fn day_of_iso(year: u64, week: u64, weekday: u64) -> Day
         return Day::Outside;
     }
     let n = week_one(year) + 7 * (week - 1) + (weekday - 1);
-    if 3652058 < n {
+    if date::LAST_DAY < n {
         return Day::Outside;
     }
     Day::Is(n)
@@ -63,7 +66,7 @@ pub fn day_of_iso(year: u64, week: u64, weekday: u64) -> Day
 
 // The last year whose week 1 starts no later than the day.
 fn year_of(n: u64) -> u64
-    requires { ⌜ n ≤ 3652058 ⌝ }
+    requires { ⌜ n < allDays ⌝ }
     ensures { λ r. ⌜ r ≡ isoYear n ⌝ }
 {
     let place = year::year_day(n);
@@ -80,7 +83,7 @@ fn year_of(n: u64) -> u64
 pub fn iso_of_day(n: u64) -> IsoDated
     ensures { λ r. ⌜ r ≡ isoOfDay n ⌝ }
 {
-    if 3652058 < n {
+    if date::LAST_DAY < n {
         return IsoDated::Outside;
     }
     let year = year_of(n);

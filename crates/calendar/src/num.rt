@@ -15,7 +15,14 @@ pub fn lesser(a: u64, b: u64) -> u64
     if b < a { b } else { a }
 }
 
-pub fn less(a: u64, b: u64) -> u64
+// The lesser of two counts.
+pub fn fewer(a: usize, b: usize) -> usize
+    ensures { λ r. ⌜ r ≡ min a b ⌝ }
+{
+    if b < a { b } else { a }
+}
+
+pub fn minus(a: u64, b: u64) -> u64
     ensures { λ r. ⌜ r ≡ a - b ⌝ }
 {
     if a < b { 0 } else { a - b }

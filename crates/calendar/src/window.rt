@@ -5,6 +5,23 @@ ghost use Rattle.calendar.specs.Window.{windowYear, monthFirst, monthDay
 use crate::year;
 use crate::year::MonthDay;
 
+// 2000-01-01, counted from 0001-01-01.
+pub const FIRST_DAY: u64 = 730119;
+// The local days.
+pub const DAYS: u64 = 36525;
+// 2099-12-31.
+const LAST_DAY: u64 = DAYS - 1;
+// The months.
+pub const MONTHS: u64 = 1200;
+// December 2099.
+pub const LAST_MONTH: u64 = MONTHS - 1;
+// The minutes of a day.
+pub const DAY: u64 = 1440;
+// The local minutes.
+pub const MINUTES: u64 = DAYS * DAY;
+// 2099-12-31 23:59.
+pub const LAST_MINUTE: u64 = MINUTES - 1;
+
 // The local days before year 2000 + y.
 fn start(y: u64) -> u64
     requires { ⌜ y ≤ 100 ⌝ }
@@ -17,8 +34,8 @@ fn start(y: u64) -> u64
 pub fn month_first(month: u64) -> u64
     ensures { λ r. ⌜ r ≡ monthFirst month ⌝ }
 {
-    if 1199 < month {
-        return 36525;
+    if LAST_MONTH < month {
+        return DAYS;
     }
     let y = month / 12;
     start(y) + year::month_start(y % 4 == 0, month % 12 + 1)
@@ -28,7 +45,7 @@ pub fn month_first(month: u64) -> u64
 pub fn month_days(month: u64) -> u64
     ensures { λ r. ⌜ r ≡ monthDays month ⌝ }
 {
-    if 1199 < month {
+    if LAST_MONTH < month {
         return 0;
     }
     year::month_length(month / 12 % 4 == 0, month % 12 + 1)
@@ -38,9 +55,9 @@ pub fn month_days(month: u64) -> u64
 pub fn local_date(n: u64) -> MonthDay
     ensures { λ r. ⌜ r ≡ localDate n ⌝ }
 {
-    if 36524 < n {
+    if LAST_DAY < n {
         return MonthDay {
-            month: 1200,
+            month: MONTHS,
             day: 0,
         };
     }

@@ -2,7 +2,7 @@
 ghost use mathlib.Core.Path.{_≡_};
 ghost use mathlib.Core.Bool.{true};
 ghost use Prim.Native.Nat.{_≤_, _<_};
-ghost use lib.Dec.{ltb};
+ghost use Rattle.signed.specs.Bias.{allDays};
 ghost use Rattle.calendar.specs.Calendar.{leapYear, yearLength, yearStart, monthStart, monthLength, yearDay, monthDay, weekdayOf};
 
 // A year, and the days of it before a day.
@@ -70,7 +70,7 @@ pub(crate) fn start(year: u64) -> u64
 
 // The year of a day of the range: the years are counted one at a time.
 pub(crate) fn year_day(n: u64) -> YearDay
-    requires { ⌜ n < 3652059 ⌝ }
+    requires { ⌜ n < allDays ⌝ }
     ensures { λ r. ⌜ r ≡ yearDay n ⌝ }
 {
     let mut year = 1;

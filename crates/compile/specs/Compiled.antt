@@ -6,7 +6,7 @@ use Prim.Native.Nat.{ℕ, zero, suc, _+_, _-_, _*_, _/_, _%_, _^_}
 use lib.Dec.{ltb, eqb}
 use lib.ListN.{length}
 use Rattle.calendar.specs.Below.{anyOf}
-use Rattle.calendar.specs.Window.{localDate, localWeekday}
+use Rattle.calendar.specs.Window.{localDate, localWeekday, dayMinutes, windowDays, windowLast}
 use Rattle.days.specs.Search.{nthFrom}
 use Rattle.frames.specs.declared.Cron.{Cron}
 use Rattle.frames.specs.declared.Ends.{Ends}
@@ -81,13 +81,13 @@ daysOf monthly g first =
 -- "*Last* is UNTIL, or the COUNT-th occurrence's local minute, or 52,595,999 if there is neither or fewer occurrences exist."
 unfoldable pub lastOf : Given → ℕ → ℕ
 lastOf g start =
-    let first = start / 1440 in
+    let first = start / dayMinutes in
     elim (g .until) [
       | some t ↦ minuteOf t
       | none ↦ elim (g .count) [
-        | none ↦ 52595999
-        | some c ↦ let d = nthFrom (occursOn (Option·getD (g .frequency) daily) g first) c (36525 - first) first in
-            cond (ltb d 36525) (1440 * d + start % 1440) 52595999
+        | none ↦ windowLast
+        | some c ↦ let d = nthFrom (occursOn (Option·getD (g .frequency) daily) g first) c (windowDays - first) first in
+            cond (ltb d windowDays) (dayMinutes * d + start % dayMinutes) windowLast
       ]
     ]
 
@@ -100,7 +100,7 @@ unfoldable pub ruleFrame : Given → ℕ → Rule
 unfolding endsOf ordinalsOf nothing weekdaysOf daysOf
 ruleFrame g start =
     let f = Option·getD (g .frequency) daily in
-    let first = start / 1440 in
+    let first = start / dayMinutes in
     record {
       frequency = frequencyNumber f;
       interval = Option·getD (g .interval) 1;

@@ -5,14 +5,15 @@ use Prim.Native.Nat.{ℕ, zero, suc, _-_, min}
 use lib.Dec.{eqb}
 use Rattle.calendar.specs.Below.{leastFrom, lastFrom}
 use Rattle.frames.specs.Numbers.{dayHeld}
+use Rattle.calendar.specs.Window.{windowDays}
 
--- the least held day from low up to high, or high; days count to the end of 2099
+-- the least held day from low up to high, or where that range ends; days count to the end of 2099
 unfoldable pub leastDay : List ℕ → ℕ → ℕ → ℕ
-leastDay l low high = leastFrom (dayHeld l) (min high 36525 - low) low
+leastDay l low high = leastFrom (dayHeld l) (min high windowDays - low) low
 
 -- one more than the greatest held day from low up to high, or low
 unfoldable pub lastDay : List ℕ → ℕ → ℕ → ℕ
-lastDay l low high = lastFrom (dayHeld l) (min high 36525 - low) low
+lastDay l low high = lastFrom (dayHeld l) (min high windowDays - low) low
 
 -- the c-th of the k numbers from i on that pass a test; the first past them where there are fewer
 unfoldable pub nthFrom : (ℕ → Bool) → ℕ → ℕ → ℕ → ℕ
@@ -25,4 +26,4 @@ nthFrom test c (suc k) i =
 
 -- the COUNT-th held day from low on; the first day past 2099 where there are fewer
 unfoldable pub nthDay : List ℕ → ℕ → ℕ → ℕ
-nthDay l count low = nthFrom (dayHeld l) count (36525 - low) low
+nthDay l count low = nthFrom (dayHeld l) count (windowDays - low) low

@@ -5,20 +5,21 @@ use mathlib.Core.Path.{_≡_}
 use Prim.Native.Nat.{ℕ, _+_, _/_, _<_, _≤_}
 use lib.Dec.{leb, eqb}
 use lib.ListN.{getD, set}
-use Rattle.calendar.specs.Window.{monthFirst, monthDays}
+use Rattle.calendar.specs.Window.{monthFirst, monthDays, dayMinutes, windowDays, windowMonths}
 use Rattle.masks.specs.Masks.{bit}
 use Rattle.frames.specs.Months.{dayOf, InMonth}
-use Rattle.frames.specs.Numbers.{ruleOf, startMonth}
+use Rattle.frames.specs.Numbers.{ruleOf, startMonth, startIn}
 use Rattle.frames.specs.Rule.{counts}
 use Rattle.frames.specs.declared.Rule.{Rule}
+use Rattle.frames.specs.Kinds.{ruleKind, isKind, isDaily, isWeekly}
 
 -- the interval of a daily or weekly rule
 unfoldable pub dayCounts : Rule → ℕ → Bool
-dayCounts f d = cond (eqb (f .frequency) 1 || eqb (f .frequency) 2) (counts f d) true
+dayCounts f d = cond (isDaily f || isWeekly f) (counts f d) true
 
 -- what goes by the day: a rule's start, and that interval
 unfoldable pub dayPart : List ℕ → ℕ → Bool
-dayPart l d = cond (eqb (getD l 0 0) 4) (leb (getD l 3 0 / 1440) d && dayCounts (ruleOf l) d) true
+dayPart l d = cond (isKind ruleKind l) (leb (startIn l / dayMinutes) d && dayCounts (ruleOf l) d) true
 
 -- a set of days of month k that, with each day's own part, makes up a day test
 pub record SetOf (part held : ℕ → Bool) (k set : ℕ) : Type 0 where
@@ -26,30 +27,40 @@ pub record SetOf (part held : ℕ → Bool) (k set : ℕ) : Type 0 where
 
 -- day d lies in month k of the window
 pub record Holds (k d : ℕ) : Type 0 where
-  pub month : k < 1200
+  pub month : k < windowMonths
   pub from : monthFirst k ≤ d
   pub to : d < monthFirst k + monthDays k
+
+-- what a walk keeps beside its frame, by the place in the row
+abbrev pub startMonthIn : List ℕ → ℕ
+startMonthIn l = getD l 12 0
+
+abbrev pub lastMonthIn : List ℕ → ℕ
+lastMonthIn l = getD l 13 0
+
+abbrev pub lastDayIn : List ℕ → ℕ
+lastDayIn l = getD l 14 0
 
 -- a frame made ready for a walk: the start's month, the last month of the walk and its last day stand after the frame's own numbers
 unfoldable pub readied : List ℕ → ℕ → ℕ → List ℕ
 readied l month day = set (set (set l 12 (startMonth l)) 13 month) 14 day
 
 pub record Ready (l : List ℕ) : Type 0 where
-  pub begun : getD l 12 0 ≡ startMonth l
-  pub ends : Holds (getD l 13 0) (getD l 14 0)
+  pub begun : startMonthIn l ≡ startMonth l
+  pub ends : Holds (lastMonthIn l) (lastDayIn l)
 
 -- where a walk up stands, at day d of month k, not past its last day; and one down
 pub record Up (l : List ℕ) (k d : ℕ) : Type 0 where
   pub ready : Ready l
   pub here : Holds k d
-  pub before : d ≤ getD l 14 0
+  pub before : d ≤ lastDayIn l
 
 pub record Down (l : List ℕ) (k d : ℕ) : Type 0 where
   pub ready : Ready l
   pub here : Holds k d
-  pub after : getD l 14 0 ≤ d
+  pub after : lastDayIn l ≤ d
 
 -- no day from low up to high is held
 pub record Passed (held : ℕ → Bool) (low high : ℕ) : Type 0 where
   pub rises : low ≤ high
-  pub none : (j : ℕ) → low ≤ j → j < high → j < 36525 → held j ≡ false
+  pub none : (j : ℕ) → low ≤ j → j < high → j < windowDays → held j ≡ false

@@ -5,3 +5,4 @@ mod counted;
 mod parts;
 pub mod ranges;
 mod steps;
+mod walk;

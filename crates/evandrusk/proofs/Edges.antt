@@ -11,7 +11,7 @@ use lib.Signed.{ltZ}
 use Rattle.load.specs.Loads.{loadedAs}
 use Rattle.next.proofs.Ready.{taken-good, plan-instants-range}
 use Rattle.next.specs.Instants.{Next, Previous, NextOf, PreviousOf}
-use Rattle.next.specs.Plans.{AnswerBy, NextIn, PreviousIn, localIn, localOf, localBy as localInside}
+use Rattle.next.specs.Plans.{AnswerBy, NextIn, PreviousIn, answerOf, foundOf, localIn, localOf, localBy as localInside}
 use Rattle.next.specs.declared.Answer.{Answer}
 use Rattle.plan.specs.Plan.{PlanInstant, planZone}
 use Rattle.plan.specs.Taken.{Loaded, taken, refused, load, loadedNumber, loadedLine}
@@ -94,12 +94,12 @@ pub previous-edge : (plan : List ℕ) (asked : ℤ) (a : Answer) → PreviousIn 
 unfolding PreviousIn PreviousAnswer
 previous-edge plan asked a = previous-by (load plan) (taken-good plan) asked a
 
--- a local minute: 52,596,000 is outside, as the negative ones that it stands for
+-- a local minute: the first past the window is outside, as the negative ones that it stands for
 local-by : (l : Loaded) (z : ℤ) → localAs (localInside l (minuteOf z)) ≡ localBy l z
 unfolding localInside localBy instantOfLocal
 local-by (taken fs) (pos m) = by-instant (instantOfLocal (planZone fs) m)
   where
-    by-instant : (i : Instant) → localAs (localOf i) ≡ localFound i
+    by-instant : (i : Instant) → localAs (localOf (answerOf (foundOf i))) ≡ localFound i
     by-instant (Instant.Is i) = refl
     by-instant Instant.Outside = refl
 local-by (taken fs) (negsuc n) = refl

@@ -15,6 +15,7 @@ use Rattle.plan.specs.declared.Frame.{Frame}
 use Rattle.signed.specs.Bias.{unbiasInstant}
 use Rattle.zone.specs.Stretches.{instantOfLocal}
 use Rattle.zone.specs.declared.stretch.Instant.{Instant}
+use Rattle.calendar.specs.Window.{windowMinutes}
 use Rattle.evandrusk.specs.declared.answers.EvkChecked.{EvkChecked}
 use Rattle.evandrusk.specs.declared.answers.EvkFound.{EvkFound}
 
@@ -84,10 +85,10 @@ localBy (taken fs) (pos m) = localFound (instantOfLocal (planZone fs) m)
 localBy (taken fs) (negsuc n) = refusedAs 5 0
 localBy (refused k) z = refusedAs 10 k
 
--- a signed local minute inside: 52,596,000, the first past the window, for a negative one
+-- a signed local minute inside: the first past the window for a negative one
 abbrev pub minuteOf : ℤ → ℕ
 minuteOf (pos m) = m
-minuteOf (negsuc n) = 52596000
+minuteOf (negsuc n) = windowMinutes
 
 unfoldable pub localAnswer : List ℕ → ℤ → EvkFound
 localAnswer plan z = localBy (load plan) z

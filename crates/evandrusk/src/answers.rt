@@ -6,6 +6,7 @@ ghost use Rattle.evandrusk.specs.Plans.{checkedAs, answerAs, localAs, fo
 use calendar::date::Dated;
 use calendar::date::Day;
 use calendar::iso::IsoDated;
+use calendar::window;
 use load::Loaded;
 use next::Answer;
 use next::Local;
@@ -153,7 +154,7 @@ pub(crate) fn minute_of(m: i64) -> u64
     ensures { λ r. ⌜ r ≡ minuteOf m ⌝ }
 {
     if m < 0 {
-        return 52596000;
+        return window::MINUTES;
     }
     signed::natural(m)
 }

@@ -54,9 +54,7 @@ pub extern "C" fn evk_day_of_iso(year: i64, week: i64, weekday: i64) -> EvkDay
 pub extern "C" fn evk_check(plan: &[u8]) -> EvkChecked
     ensures { λ r. ⌜ r ≡ checkAnswer (now (plan .entry)) ⌝ }
 {
-    let row = [0u64; 16];
-    let mut rows = [row; 64];
-    answers::checked(load::load(plan, &mut rows))
+    answers::checked(load::check(plan))
 }
 
 #[no_mangle]

@@ -2,7 +2,7 @@
 pub mod MonthDays
 pub mod MonthSets
 pub mod Flags
-pub mod Places
+pub mod Positions
 pub mod Weeks
 pub mod Allowed
 pub mod Swaps

@@ -20,7 +20,7 @@ use Rattle.frames.specs.Rule.{noLimit, monthDayAllowed, weekdayAllowed, 
 use Rattle.frames.specs.declared.Cron.{Cron}
 use Rattle.frames.specs.declared.Rule.{Rule}
 use Rattle.frames.proofs.MonthDays.{in-month, month-of-day, day-of-day, end-of-day, weekday-of-day}
-use Rattle.frames.proofs.Places.{placed-by-bits}
+use Rattle.frames.proofs.Positions.{placed-by-bits}
 
 pub is-true : (b : Bool) → T b → b ≡ true
 is-true true t = refl

@@ -1,7 +1,7 @@
 -- "Cron", read from the masks of a frame.
 use mathlib.Core.Bool.{Bool, cond, _&&_, _||_}
 use Prim.Native.Nat.{ℕ, _+_, _/_, _%_}
-use Rattle.calendar.specs.Window.{localDate, localWeekday}
+use Rattle.calendar.specs.Window.{localDate, localWeekday, dayMinutes}
 use Rattle.masks.specs.Masks.{bit}
 use Rattle.frames.specs.declared.Cron.{Cron}
 
@@ -21,4 +21,4 @@ unfoldable pub cronTime : Cron → ℕ → Bool
 cronTime f t = bit (f .hours) (t / 60) && bit (f .minutes) (t % 60)
 
 unfoldable pub cronHeld : Cron → ℕ → Bool
-cronHeld f m = cronDay f (m / 1440) && cronTime f (m % 1440)
+cronHeld f m = cronDay f (m / dayMinutes) && cronTime f (m % dayMinutes)

@@ -1,4 +1,5 @@
 -- What a cron or rule frame holds, over local days.
+pub mod Kinds
 pub mod Cron
 pub mod Rule
 pub mod Numbers

@@ -1,10 +1,11 @@
--- A cron or rule frame as the search holds it: sixteen numbers, the first the frame's kind, 3 or 4.
+-- A cron or rule frame as the search holds it: sixteen numbers, the first the frame's kind.
 use mathlib.Core.Bool.{Bool, false, cond}
 use mathlib.Core.List.{List}
 use Prim.Native.Nat.{ℕ, _/_}
 use lib.Dec.{eqb}
 use lib.ListN.{getD}
-use Rattle.calendar.specs.Window.{localDate}
+use Rattle.calendar.specs.Window.{localDate, dayMinutes}
+use Rattle.frames.specs.Kinds.{cronKind, ruleKind, isKind}
 use Rattle.frames.specs.Cron.{cronDay}
 use Rattle.frames.specs.Rule.{ruleDay}
 use Rattle.frames.specs.declared.Cron.{Cron}
@@ -34,10 +35,20 @@ ruleOf l =
       positions = record { front = getD l 10 0; back = getD l 11 0 };
     }
 
+-- a cron frame's months, a rule's start, the local minute of an extra or excepted one, by their place in the row
+abbrev pub monthsIn : List ℕ → ℕ
+monthsIn l = getD l 4 0
+
+abbrev pub startIn : List ℕ → ℕ
+startIn l = getD l 3 0
+
+abbrev pub minuteIn : List ℕ → ℕ
+minuteIn l = getD l 1 0
+
 -- the day test of the frame
 unfoldable pub dayHeld : List ℕ → ℕ → Bool
-dayHeld l d = cond (eqb (getD l 0 0) 3) (cronDay (cronOf l) d) (cond (eqb (getD l 0 0) 4) (ruleDay (ruleOf l) d) false)
+dayHeld l d = cond (isKind cronKind l) (cronDay (cronOf l) d) (cond (isKind ruleKind l) (ruleDay (ruleOf l) d) false)
 
 -- the month that holds a rule's start
 unfoldable pub startMonth : List ℕ → ℕ
-startMonth l = localDate (getD l 3 0 / 1440) .month
+startMonth l = localDate (startIn l / dayMinutes) .month

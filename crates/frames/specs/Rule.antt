@@ -3,8 +3,9 @@ use mathlib.Core.Bool.{Bool, true, false, cond, _&&_, _||_}
 use Prim.Native.Nat.{ℕ, _+_, _-_, _/_, _%_, _^_}
 use lib.Dec.{leb, eqb}
 use Rattle.calendar.specs.Below.{countFrom}
-use Rattle.calendar.specs.Window.{monthFirst, localDate, localWeekday, localWeek, fromEnd}
+use Rattle.calendar.specs.Window.{monthFirst, localDate, localWeekday, localWeek, fromEnd, dayMinutes}
 use Rattle.masks.specs.Masks.{bit}
+use Rattle.frames.specs.Kinds.{isDaily, isWeekly}
 use Rattle.frames.specs.declared.Ends.{Ends}
 use Rattle.frames.specs.declared.Rule.{Rule}
 
@@ -52,19 +53,19 @@ placed f d =
 
 -- "Periods are days, Monday weeks or months."
 unfoldable pub period : Rule → ℕ → ℕ
-period f d = cond (eqb (f .frequency) 1) d (cond (eqb (f .frequency) 2) (localWeek d) (localDate d .month))
+period f d = cond (isDaily f) d (cond (isWeekly f) (localWeek d) (localDate d .month))
 
 -- "Period 0 holds the start; every INTERVAL-th from there counts."
 unfoldable pub counts : Rule → ℕ → Bool
-counts f d = eqb ((period f d - period f (f .start / 1440)) % f .interval) 0
+counts f d = eqb ((period f d - period f (f .start / dayMinutes)) % f .interval) 0
 
 -- "Drop what is before the start."
 unfoldable pub ruleDay : Rule → ℕ → Bool
-ruleDay f d = leb (f .start / 1440) d && (counts f d && (inSet f d && placed f d))
+ruleDay f d = leb (f .start / dayMinutes) d && (counts f d && (inSet f d && placed f d))
 
 -- "The time of day is the start's."
 unfoldable pub ruleOccurs : Rule → ℕ → Bool
-ruleOccurs f m = ruleDay f (m / 1440) && eqb (m % 1440) (f .start % 1440)
+ruleOccurs f m = ruleDay f (m / dayMinutes) && eqb (m % dayMinutes) (f .start % dayMinutes)
 
 -- and no later than *last*
 unfoldable pub ruleHeld : Rule → ℕ → Bool

@@ -1,8 +1,10 @@
 // One cron or rule frame: its numbers, and the days of a month that it holds.
+pub mod kinds;
 pub mod limits;
 pub mod months;
 pub mod numbers;
 mod picks;
+pub mod places;
 pub mod truth;
 mod turns;
 

@@ -9,6 +9,15 @@ use crate::Rule;
 use crate::truth::both;
 use crate::turns;
 
+// Bits 1 to 31.
+pub const EVERY_DAY: u64 = 4294967294;
+// Bits 0 to 6.
+pub const EVERY_WEEKDAY: u64 = 127;
+// A week's mask times this is the mask twice, one week after the other.
+const TWO_WEEKS: u64 = 129;
+// A week's mask times this is the mask from days 1, 8, 15, 22 and 29 on.
+const FIVE_WEEKS: u64 = 541098242;
+
 pub fn no_limit(e: Ends) -> bool
     ensures { λ r. ⌜ r ≡ noLimit e ⌝ }
 {
@@ -22,7 +31,7 @@ pub(crate) fn days_allowed(f: Rule, len: u64) -> u64
 {
     let wanted = f.days;
     if no_limit(wanted) {
-        return 4294967294;
+        return EVERY_DAY;
     }
     turns::both_ends(wanted, len)
 }
@@ -33,8 +42,8 @@ pub(crate) fn week_days(weekdays: u64, first: u64) -> u64
     ensures { λ r. ⌜ ((n : ℕ) → 1 ≤ n → n ≤ 31 → bit r n ≡ bit weekdays ((first + (n - 1)) % 7)) ⌝ }
 {
     let week = weekdays % 128;
-    let turned = ((week * 129) >> first) % 128;
-    turned * 541098242
+    let turned = ((week * TWO_WEEKS) >> first) % 128;
+    turned * FIVE_WEEKS
 }
 
 // The days whose weekday is in the mask of ordinal n + 1: a byte each, that of the first ordinal the highest.
@@ -50,8 +59,8 @@ fn ordinal_days(ordinals: Ends, n: u64, first: u64, len: u64) -> u64
     requires { ⌜ (n < 5) × (first < 7) × (28 ≤ len) × (len ≤ 31) ⌝ }
     ensures { λ r. ⌜ ((d : ℕ) → 1 ≤ d → d ≤ len → bit r d ≡ ordinalAt ordinals first len n d) ⌝ }
 {
-    let front = ordinal_week(ordinals.front, n, first) & (127 << (7 * n + 1));
-    let back = ordinal_week(ordinals.back, n, first) & ((127 << (len - 7 * n)) >> 6);
+    let front = ordinal_week(ordinals.front, n, first) & (EVERY_WEEKDAY << (7 * n + 1));
+    let back = ordinal_week(ordinals.back, n, first) & ((EVERY_WEEKDAY << (len - 7 * n)) >> 6);
     front | back
 }
 
@@ -80,7 +89,7 @@ pub(crate) fn weekdays_allowed(f: Rule, first: u64, len: u64) -> u64
         return plain | ordinals_allowed(ordinals, first, len);
     }
     if f.weekdays == 0 {
-        return 4294967294;
+        return EVERY_DAY;
     }
     plain
 }

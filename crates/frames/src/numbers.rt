@@ -4,40 +4,42 @@ ghost use Rattle.frames.specs.Numbers.{cronOf, ruleOf};
 use crate::Cron;
 use crate::Ends;
 use crate::Rule;
+use crate::places;
+use crate::places::Row;
 
-pub fn cron_of(f: &[u64; 16]) -> Cron
+pub fn cron_of(f: &Row) -> Cron
     ensures { λ r. ⌜ r ≡ cronOf (now (f .entry)) ⌝ }
 {
     Cron {
-        minutes: f[1],
-        hours: f[2],
-        days: f[3],
-        months: f[4],
-        weekdays: f[5],
-        flags: f[6],
+        minutes: f[places::MINUTES],
+        hours: f[places::HOURS],
+        days: f[places::DAYS],
+        months: f[places::MONTHS],
+        weekdays: f[places::WEEKDAYS],
+        flags: f[places::FLAGS],
     }
 }
 
-pub fn rule_of(f: &[u64; 16]) -> Rule
+pub fn rule_of(f: &Row) -> Rule
     ensures { λ r. ⌜ r ≡ ruleOf (now (f .entry)) ⌝ }
 {
     Rule {
-        frequency: f[1],
-        interval: f[2],
-        start: f[3],
-        last: f[4],
-        weekdays: f[5],
+        frequency: f[places::FREQUENCY],
+        interval: f[places::INTERVAL],
+        start: f[places::START],
+        last: f[places::LAST],
+        weekdays: f[places::WEEKDAYS],
         days: Ends {
-            front: f[6],
-            back: f[7],
+            front: f[places::DAYS_FRONT],
+            back: f[places::DAYS_BACK],
         },
         ordinals: Ends {
-            front: f[8],
-            back: f[9],
+            front: f[places::ORDINALS_FRONT],
+            back: f[places::ORDINALS_BACK],
         },
         positions: Ends {
-            front: f[10],
-            back: f[11],
+            front: f[places::POSITIONS_FRONT],
+            back: f[places::POSITIONS_BACK],
         },
     }
 }

@@ -4,6 +4,8 @@ ghost use Rattle.plan.specs.Taken.{cronGood};
 use crate::bits::flag_good;
 use crate::bits::mask_good;
 use frames::Cron;
+use frames::limits::EVERY_DAY;
+use frames::limits::EVERY_WEEKDAY;
 use frames::truth::both;
 
 pub(crate) fn cron_good(f: Cron) -> bool
@@ -28,7 +30,7 @@ pub(crate) fn cron_good(f: Cron) -> bool
         return false;
     }
     both(
-        flag_good(f.flags, 0, f.days, 4294967294),
-        flag_good(f.flags, 1, f.weekdays, 127),
+        flag_good(f.flags, 0, f.days, EVERY_DAY),
+        flag_good(f.flags, 1, f.weekdays, EVERY_WEEKDAY),
     )
 }

@@ -1,17 +1,22 @@
 // A rule frame's frequency, limits, interval and start.
 ghost use mathlib.Core.Path.{_≡_};
 ghost use Prim.Native.Nat.{_/_, _<_};
+ghost use Rattle.calendar.specs.Window.{dayMinutes, windowMinutes};
 ghost use Rattle.frames.specs.Rule.{ruleDay};
 ghost use Rattle.plan.specs.Taken.{ordinalsGood, placesGood, frequencyGood, ruleGood};
 use crate::bits::only_bits;
 use crate::bits::pair_good;
 use calendar::num::lies_within;
+use calendar::window;
 use days::ranges;
 use frames::Rule;
+use frames::kinds;
 use frames::limits::no_limit;
 use frames::truth::both;
 use plan::Frame;
 use plan::text;
+
+const MOST_INTERVAL: u64 = 999;
 
 // Five bytes, the top bit of each clear.
 fn ordinals_good(g: u64) -> bool
@@ -57,27 +62,30 @@ fn places_good(f: Rule) -> bool
 fn frequency_good(f: Rule) -> bool
     ensures { λ r. ⌜ r ≡ frequencyGood f ⌝ }
 {
-    let free = no_limit(f.ordinals);
-    let placeless = no_limit(f.positions);
-    let dayless = no_limit(f.days);
-    if f.frequency == 1 {
-        return both(free, placeless);
+    let no_ordinals = no_limit(f.ordinals);
+    let no_positions = no_limit(f.positions);
+    let no_days = no_limit(f.days);
+    if f.frequency == kinds::DAILY {
+        return both(no_ordinals, no_positions);
     }
-    if f.frequency == 2 {
-        return both(0 < f.weekdays, both(dayless, both(free, placeless)));
+    if f.frequency == kinds::WEEKLY {
+        return both(
+            0 < f.weekdays,
+            both(no_days, both(no_ordinals, no_positions)),
+        );
     }
-    if f.frequency == 3 {
-        return !both(f.weekdays == 0, both(dayless, free));
+    if f.frequency == kinds::MONTHLY {
+        return !both(f.weekdays == 0, both(no_days, no_ordinals));
     }
     false
 }
 
 // Whether a rule holds the day of its start.
 fn start_held(f: Rule) -> bool
-    requires { ⌜ f .start < 52596000 ⌝ }
-    ensures { λ r. ⌜ r ≡ ruleDay f (f .start / 1440) ⌝ }
+    requires { ⌜ f .start < windowMinutes ⌝ }
+    ensures { λ r. ⌜ r ≡ ruleDay f (f .start / dayMinutes) ⌝ }
 {
-    let day = f.start / 1440;
+    let day = f.start / window::DAY;
     let row = text::row_of(Frame::Rule(f));
     ranges::least_day(&row, day, day + 1) == day
 }
@@ -91,10 +99,10 @@ pub(crate) fn rule_good(f: Rule) -> bool
     if !places_good(f) {
         return false;
     }
-    if !lies_within(1, 999, f.interval) {
+    if !lies_within(1, MOST_INTERVAL, f.interval) {
         return false;
     }
-    if 52596000 <= f.last {
+    if window::MINUTES <= f.last {
         return false;
     }
     if f.last < f.start {

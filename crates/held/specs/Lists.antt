@@ -5,11 +5,14 @@ use Prim.Native.Nat.{ℕ, _-_, min}
 use lib.Dec.{eqb}
 use lib.ListN.{getD, take}
 use Rattle.calendar.specs.Below.{anyOf, leastFrom, lastFrom}
+use Rattle.calendar.specs.Window.{windowMinutes}
+use Rattle.frames.specs.Kinds.{exceptedKind, isKind}
+use Rattle.frames.specs.Numbers.{minuteIn}
 use Rattle.held.specs.Minutes.{frameHeld}
 
--- kind 6, an excepted minute
+-- an excepted minute
 unfoldable pub frameExcepts : List ℕ → ℕ → Bool
-frameExcepts l m = eqb (getD l 0 0) 6 && eqb m (getD l 1 0)
+frameExcepts l m = isKind exceptedKind l && eqb m (minuteIn l)
 
 abbrev pub anyHeld : List (List ℕ) → ℕ → Bool
 anyHeld fs m = anyOf (λ (l : List ℕ). frameHeld l m) fs
@@ -25,10 +28,10 @@ listHeld fs m = anyHeld fs m && not (anyExcepts fs m)
 abbrev pub firstOf : ℕ → List (List ℕ) → List (List ℕ)
 firstOf count fs = take (min count 64) fs
 
--- the least held minute from low up to high, or high; minutes count to the end of 2099
+-- the least held minute from low up to high, or where that range ends; minutes count to the end of 2099
 unfoldable pub listLeast : List (List ℕ) → ℕ → ℕ → ℕ
-listLeast fs low high = leastFrom (listHeld fs) (min high 52596000 - low) low
+listLeast fs low high = leastFrom (listHeld fs) (min high windowMinutes - low) low
 
 -- one more than the greatest held minute from low up to high, or low
 unfoldable pub listLast : List (List ℕ) → ℕ → ℕ → ℕ
-listLast fs low high = lastFrom (listHeld fs) (min high 52596000 - low) low
+listLast fs low high = lastFrom (listHeld fs) (min high windowMinutes - low) low

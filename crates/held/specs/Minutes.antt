@@ -7,31 +7,33 @@ use lib.Dec.{eqb}
 use lib.ListN.{getD}
 use Rattle.calendar.specs.Below.{leastFrom, lastFrom}
 use Rattle.frames.specs.Cron.{cronTime, cronHeld}
-use Rattle.frames.specs.Numbers.{cronOf, ruleOf, dayHeld}
+use Rattle.frames.specs.Numbers.{cronOf, ruleOf, dayHeld, minuteIn, startIn}
 use Rattle.frames.specs.Rule.{ruleHeld}
+use Rattle.calendar.specs.Window.{windowMinutes, dayMinutes}
+use Rattle.frames.specs.Kinds.{cronKind, ruleKind, extraKind, isKind}
 
--- kinds 3 and 4, and 5, the extra minute; no other kind holds a minute
+-- a cron line, a rule and an extra minute; no other kind holds a minute
 unfoldable pub frameHeld : List ℕ → ℕ → Bool
 frameHeld l m =
-    cond (eqb (getD l 0 0) 3) (cronHeld (cronOf l) m)
-    (cond (eqb (getD l 0 0) 4) (ruleHeld (ruleOf l) m)
-    (cond (eqb (getD l 0 0) 5) (eqb m (getD l 1 0)) false))
+    cond (isKind cronKind l) (cronHeld (cronOf l) m)
+    (cond (isKind ruleKind l) (ruleHeld (ruleOf l) m)
+    (cond (isKind extraKind l) (eqb m (minuteIn l)) false))
 
--- the least held minute from low up to high, or high; minutes count to the end of 2099
+-- the least held minute from low up to high, or where that range ends; minutes count to the end of 2099
 unfoldable pub leastMinute : List ℕ → ℕ → ℕ → ℕ
-leastMinute l low high = leastFrom (frameHeld l) (min high 52596000 - low) low
+leastMinute l low high = leastFrom (frameHeld l) (min high windowMinutes - low) low
 
 -- one more than the greatest held minute from low up to high, or low
 unfoldable pub lastMinute : List ℕ → ℕ → ℕ → ℕ
-lastMinute l low high = lastFrom (frameHeld l) (min high 52596000 - low) low
+lastMinute l low high = lastFrom (frameHeld l) (min high windowMinutes - low) low
 
 -- a minute by its day and its time of day
 abbrev pub dayAndTime : (ℕ → Bool) → (ℕ → Bool) → ℕ → Bool
-dayAndTime day time m = day (m / 1440) && time (m % 1440)
+dayAndTime day time m = day (m / dayMinutes) && time (m % dayMinutes)
 
 -- the time of day of a cron or rule frame
 unfoldable pub timePart : List ℕ → ℕ → Bool
-timePart l t = cond (eqb (getD l 0 0) 3) (cronTime (cronOf l) t) (cond (eqb (getD l 0 0) 4) (eqb t (getD l 3 0 % 1440)) false)
+timePart l t = cond (isKind cronKind l) (cronTime (cronOf l) t) (cond (isKind ruleKind l) (eqb t (startIn l % dayMinutes)) false)
 
 -- what the frame says of a minute but for *last*
 abbrev pub minutePart : List ℕ → ℕ → Bool

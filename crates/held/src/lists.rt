@@ -1,16 +1,22 @@
 // Several frames together: the least and the last minute that some frame holds and no excepted minute names.
 ghost use mathlib.Core.Path.{_≡_};
-ghost use mathlib.Core.List.{List};
-ghost use Prim.Native.Nat.{min, _≤_};
+ghost use Prim.Native.Nat.{_≤_};
 ghost use lib.ListN.{take};
+ghost use Rattle.calendar.specs.Window.{windowMinutes};
 ghost use Rattle.calendar.proofs.Leasts.{Least, Last};
 ghost use Rattle.held.specs.Lists.{frameExcepts, anyHeld, anyExcepts, listHeld, firstOf, listLeast, listLast};
 use crate::minutes;
+use calendar::num::fewer;
 use calendar::num::lesser;
+use calendar::window;
+use frames::kinds;
+use frames::places;
+use frames::places::Row;
+use frames::places::Rows;
 
 // The least minute that one of the first n frames holds: the best found so far bounds the later frames' search.
-fn any_least(fs: &[[u64; 16]; 64], n: usize, low: u64, high: u64) -> u64
-    requires { ⌜ (n ≤ 64) × (low ≤ high) × (high ≤ 52596000) ⌝ }
+fn any_least(fs: &Rows, n: usize, low: u64, high: u64) -> u64
+    requires { ⌜ (n ≤ 64) × (low ≤ high) × (high ≤ windowMinutes) ⌝ }
     ensures { λ r. ⌜ Least (anyHeld (take n (now (fs .entry)))) low high r ⌝ }
 {
     let mut best = high;
@@ -23,8 +29,8 @@ fn any_least(fs: &[[u64; 16]; 64], n: usize, low: u64, high: u64) -> u64
 }
 
 // One more than the greatest minute that one of the first n frames holds.
-fn any_last(fs: &[[u64; 16]; 64], n: usize, low: u64, high: u64) -> u64
-    requires { ⌜ (n ≤ 64) × (low ≤ high) × (high ≤ 52596000) ⌝ }
+fn any_last(fs: &Rows, n: usize, low: u64, high: u64) -> u64
+    requires { ⌜ (n ≤ 64) × (low ≤ high) × (high ≤ windowMinutes) ⌝ }
     ensures { λ r. ⌜ Last (anyHeld (take n (now (fs .entry)))) low high r ⌝ }
 {
     let mut best = low;
@@ -36,17 +42,17 @@ fn any_last(fs: &[[u64; 16]; 64], n: usize, low: u64, high: u64) -> u64
     best
 }
 
-fn excepts(f: &[u64; 16], minute: u64) -> bool
+fn excepts(f: &Row, minute: u64) -> bool
     ensures { λ r. ⌜ r ≡ frameExcepts (now (f .entry)) minute ⌝ }
 {
-    if f[0] == 6 {
-        return minute == f[1];
+    if f[places::KIND] == kinds::EXCEPTED {
+        return minute == f[places::MINUTE];
     }
     false
 }
 
 // Whether one of the first n frames excepts the minute.
-fn excepted(fs: &[[u64; 16]; 64], n: usize, minute: u64) -> bool
+fn excepted(fs: &Rows, n: usize, minute: u64) -> bool
     requires { ⌜ n ≤ 64 ⌝ }
     ensures { λ r. ⌜ r ≡ anyExcepts (take n (now (fs .entry))) minute ⌝ }
 {
@@ -61,8 +67,8 @@ fn excepted(fs: &[[u64; 16]; 64], n: usize, minute: u64) -> bool
 }
 
 // The least held minute of a range: one that is excepted is passed, and the search goes on.
-fn least_held(fs: &[[u64; 16]; 64], n: usize, low: u64, high: u64) -> u64
-    requires { ⌜ (n ≤ 64) × (low ≤ high) × (high ≤ 52596000) ⌝ }
+fn least_held(fs: &Rows, n: usize, low: u64, high: u64) -> u64
+    requires { ⌜ (n ≤ 64) × (low ≤ high) × (high ≤ windowMinutes) ⌝ }
     ensures { λ r. ⌜ Least (listHeld (take n (now (fs .entry)))) low high r ⌝ }
 {
     let mut at = low;
@@ -79,8 +85,8 @@ fn least_held(fs: &[[u64; 16]; 64], n: usize, low: u64, high: u64) -> u64
     high
 }
 
-fn last_held(fs: &[[u64; 16]; 64], n: usize, low: u64, high: u64) -> u64
-    requires { ⌜ (n ≤ 64) × (low ≤ high) × (high ≤ 52596000) ⌝ }
+fn last_held(fs: &Rows, n: usize, low: u64, high: u64) -> u64
+    requires { ⌜ (n ≤ 64) × (low ≤ high) × (high ≤ windowMinutes) ⌝ }
     ensures { λ r. ⌜ Last (listHeld (take n (now (fs .entry)))) low high r ⌝ }
 {
     let mut at = high;
@@ -97,30 +103,24 @@ fn last_held(fs: &[[u64; 16]; 64], n: usize, low: u64, high: u64) -> u64
     low
 }
 
-fn rows(count: usize) -> usize
-    ensures { λ r. ⌜ r ≡ min count 64 ⌝ }
-{
-    if 64 < count { 64 } else { count }
-}
-
-// The least held minute of the first `count` frames from low up to high, or high.
-pub fn list_least(fs: &[[u64; 16]; 64], count: usize, low: u64, high: u64) -> u64
+// The least held minute of the first `count` frames from low up to high, or where that range ends; of an empty range low.
+pub fn list_least(fs: &Rows, count: usize, low: u64, high: u64) -> u64
     ensures { λ r. ⌜ r ≡ listLeast (firstOf count (now (fs .entry))) low high ⌝ }
 {
-    let end = lesser(high, 52596000);
+    let end = lesser(high, window::MINUTES);
     if end <= low {
         return low;
     }
-    least_held(fs, rows(count), low, end)
+    least_held(fs, fewer(count, places::FRAMES), low, end)
 }
 
 // One more than the greatest held minute of the first `count` frames from low up to high, or low.
-pub fn list_last(fs: &[[u64; 16]; 64], count: usize, low: u64, high: u64) -> u64
+pub fn list_last(fs: &Rows, count: usize, low: u64, high: u64) -> u64
     ensures { λ r. ⌜ r ≡ listLast (firstOf count (now (fs .entry))) low high ⌝ }
 {
-    let end = lesser(high, 52596000);
+    let end = lesser(high, window::MINUTES);
     if end <= low {
         return low;
     }
-    last_held(fs, rows(count), low, end)
+    last_held(fs, fewer(count, places::FRAMES), low, end)
 }

@@ -1,5 +1,5 @@
 // A range of which one single number may be wanted.
-ghost use Prim.Native.Nat.{ℕ, _≤_};
+ghost use Prim.Native.Nat.{_≤_};
 ghost use lib.Dec.{eqb};
 ghost use Rattle.calendar.proofs.Leasts.{Least, Last};
 

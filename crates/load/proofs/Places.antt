@@ -5,7 +5,7 @@ use mathlib.Core.Option.{Option, none, some}
 use mathlib.Core.Path.{_≡_, refl, sym, ap, subst, _∙_}
 use Prim.Native.Nat.{ℕ, suc, _+_, _<_, _≤_}
 use native.Mathlib.Omega.{arith}
-use borrow.Author.Tests.{lt-ltb, le-ltb, le-leb, lt-leb, leb-true}
+use borrow.Author.Tests.{lt-ltb, le-ltb, leb-true}
 use lib.Dec.{leb}
 use Rattle.calendar.specs.Below.{within}
 use Rattle.plan.specs.Read.{lineOf, lineRead}
@@ -13,7 +13,7 @@ use Rattle.plan.specs.Taken.{Before, zoned, frameGood, place, numberGood, allow
 use Rattle.plan.specs.Text.{lineFrame}
 use Rattle.plan.specs.declared.Frame.{Frame}
 use Rattle.plan.specs.declared.text.Line.{Line}
-use Rattle.zone.specs.Zone.{apart, underLimits}
+use Rattle.zone.specs.Zone.{underLimits}
 use Rattle.zone.specs.declared.Transition.{Transition}
 
 -- a transition after a zone of k, the last but `low` and the offset after it
@@ -22,24 +22,15 @@ module _ (k low offset : ℕ) (t : Transition) where
   unfolding place
   change-past h = simp (le-ltb k 32 h)
 
-  pub change-early : t .at < low → none ≡ place (zoned k low offset) (Frame.Change t)
-  unfolding place underLimits
-  change-early h = simp (lt-leb low (t .at) h, and-false)
+  pub change-broken : underLimits low offset t ≡ false → none ≡ place (zoned k low offset) (Frame.Change t)
+  unfolding place
+  change-broken e = rw e (simp and-false)
 
-  pub change-same : apart offset (t .offset) ≡ 0 → none ≡ place (zoned k low offset) (Frame.Change t)
-  unfolding place underLimits
-  change-same e = rw e (simp and-false)
-
-  pub change-far : 180 < apart offset (t .offset) → none ≡ place (zoned k low offset) (Frame.Change t)
-  unfolding place underLimits
-  change-far h = simp (lt-leb (apart offset (t .offset)) 180 h, and-false)
-
-  pub change-good : k ≤ 31 → low ≤ t .at → 1 ≤ apart offset (t .offset) → apart offset (t .offset) ≤ 180
-      → some (zoned (k + 1) (t .at + 2880) (t .offset)) ≡ place (zoned k low offset) (Frame.Change t)
-  unfolding place underLimits
-  change-good a b c d =
+  pub change-good : k ≤ 31 → underLimits low offset t ≡ true → some (zoned (k + 1) (t .at + 2880) (t .offset)) ≡ place (zoned k low offset) (Frame.Change t)
+  unfolding place
+  change-good a u =
       let e : k + 1 ≡ suc k = omega arith in
-      rw (e, lt-ltb k 32 (omega arith), le-leb low (t .at) b, le-leb 1 (apart offset (t .offset)) c, le-leb (apart offset (t .offset)) 180 d) refl
+      rw (e, lt-ltb k 32 (omega arith), u) refl
 
 -- a good transition's instant lies in the window
 pub change-window : (t : Transition) → frameGood (Frame.Change t) ≡ true → t .at ≤ 52597439

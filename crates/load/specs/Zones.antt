@@ -7,13 +7,14 @@ use lib.ListN.{length, getD, take, drop, replicate}
 use lib.Seq.{sets}
 use Rattle.zone.specs.declared.Transition.{Transition}
 use Rattle.zone.specs.declared.Zone.{Zone}
+use Rattle.frames.specs.Kinds.{changeKind, isKind}
 
 abbrev pub changeIn : List ℕ → Transition
 changeIn row = record { at = getD row 1 0; offset = getD row 2 0 }
 
 unfoldable pub changesIn : List (List ℕ) → List Transition
 changesIn [] = []
-changesIn (row ∷ rows) = elim (eqb (getD row 0 0) 2) [ true ↦ changeIn row ∷ changesIn rows | false ↦ [] ]
+changesIn (row ∷ rows) = elim (isKind changeKind row) [ true ↦ changeIn row ∷ changesIn rows | false ↦ [] ]
 
 -- a zone with some transitions more
 abbrev pub withChanges : Zone → List Transition → Zone

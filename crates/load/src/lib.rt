@@ -2,10 +2,14 @@
 ghost use mathlib.Core.List.{map};
 ghost use mathlib.Core.Path.{_≡_};
 ghost use Prim.Native.Nat.{_≤_};
+ghost use lib.ListN.{replicate};
 ghost use lib.Seq.{sets};
 ghost use Rattle.plan.specs.Rows.{rowOf};
 ghost use Rattle.plan.specs.Taken.{load as loadOf};
 ghost use Rattle.load.specs.Loads.{endedAs, loadedAs, readFrames};
+use frames::places::FRAMES;
+use frames::places::NUMBERS;
+use frames::places::Rows;
 use line::Allowed;
 use place::Before;
 use plan::text;
@@ -13,6 +17,14 @@ use plan::text;
 mod line;
 pub mod offsets;
 mod place;
+
+// Rows to load into. Ones, since a fill by zeros is a memset, which may go byte by byte.
+pub fn fresh_rows() -> Rows
+    ensures { λ r. ⌜ r ≡ replicate 64 (replicate 16 1) ⌝ }
+{
+    let row = [1u64; NUMBERS];
+    [row; FRAMES]
+}
 
 // A plan that is taken, with its number of frames, or the line that is not allowed.
 pub enum Loaded {
@@ -32,7 +44,7 @@ fn ended(n: usize, rest: usize) -> Loaded
 }
 
 // Checks a plan and puts its frames into the first rows; the frames before a refused line too.
-pub fn load(plan: &[u8], rows: &mut [[u64; 16]; 64]) -> Loaded
+pub fn load(plan: &[u8], rows: &mut Rows) -> Loaded
     ensures answer { λ r. ⌜ r ≡ loadedAs (loadOf (now (plan .entry))) ⌝ }
     ensures rows { λ _. ⌜ now (rows .exit) ≡ sets (now (rows .entry)) 0 (map rowOf (readFrames (now (plan .entry)))) ⌝ }
 {
@@ -57,4 +69,12 @@ pub fn load(plan: &[u8], rows: &mut [[u64; 16]; 64]) -> Loaded
         before = step.before;
     }
     Loaded::Refused(n + 1)
+}
+
+// The same, of a plan whose frames are not asked for.
+pub fn check(plan: &[u8]) -> Loaded
+    ensures { λ r. ⌜ r ≡ loadedAs (loadOf (now (plan .entry))) ⌝ }
+{
+    let mut rows = fresh_rows();
+    load(plan, &mut rows)
 }

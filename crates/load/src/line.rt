@@ -7,6 +7,7 @@ ghost use Rattle.load.specs.Loads.{beforeOf, allowedOf};
 use crate::place;
 use crate::place::Before;
 use crate::place::Placed;
+use frames::places::FRAMES;
 use plan::Frame;
 use plan::text;
 use plan::text::Line;
@@ -28,12 +29,12 @@ fn number_good(n: usize, frame: Frame) -> bool
     ensures { λ r. ⌜ r ≡ numberGood n frame ⌝ }
 {
     match frame {
-        Frame::Offset(_) => n < 64,
-        Frame::Change(_) => n < 64,
-        Frame::Cron(_) => n < 64,
-        Frame::Rule(_) => n < 64,
-        Frame::Extra(_) => n < 64,
-        Frame::Excepted(_) => n < 64,
+        Frame::Offset(_) => n < FRAMES,
+        Frame::Change(_) => n < FRAMES,
+        Frame::Cron(_) => n < FRAMES,
+        Frame::Rule(_) => n < FRAMES,
+        Frame::Extra(_) => n < FRAMES,
+        Frame::Excepted(_) => n < FRAMES,
         Frame::End(k) => k == n as u64,
     }
 }

@@ -1,35 +1,36 @@
 // The zone of a loaded plan.
 ghost use mathlib.Core.Path.{_≡_};
-ghost use Prim.Native.Nat.{min};
 ghost use Rattle.load.specs.Zones.{zoneOf};
+use calendar::num::fewer;
+use frames::kinds;
+use frames::places;
+use frames::places::Rows;
+use zone::CHANGES;
 use zone::Transition;
 use zone::Zone;
 
-fn looked_at(count: usize) -> usize
-    ensures { λ r. ⌜ r ≡ min count 33 ⌝ }
-{
-    if 33 < count { 33 } else { count }
-}
+// The rows that can hold a zone: its first offset, and the transitions.
+const ZONE_ROWS: usize = CHANGES + 1;
 
 // The zone that the first rows hold: the first one's offset, and the transitions right after it.
-pub fn zone_of(rows: &[[u64; 16]; 64], count: usize) -> Zone
+pub fn zone_of(rows: &Rows, count: usize) -> Zone
     ensures { λ r. ⌜ r ≡ zoneOf (now (rows .entry)) count ⌝ }
 {
-    let n = looked_at(count);
+    let n = fewer(count, ZONE_ROWS);
     let mut zone = Zone {
-        first: rows[0][1],
+        first: rows[0][places::OFFSET],
         count: 0,
-        changes: [Transition { at: 0, offset: 0 }; 32],
+        changes: [Transition { at: 0, offset: 0 }; CHANGES],
     };
     let mut i: usize = 1;
     while i < n {
-        if rows[i][0] != 2 {
+        if rows[i][places::KIND] != kinds::CHANGE {
             return zone;
         }
         let k = i - 1;
         zone.changes[k] = Transition {
-            at: rows[i][1],
-            offset: rows[i][2],
+            at: rows[i][places::AT],
+            offset: rows[i][places::NEW_OFFSET],
         };
         zone.count = i;
         i += 1;

@@ -1,17 +1,20 @@
 // Where a frame may stand: 01 first, then up to 32 of 02 under the zone limits, then others.
 ghost use mathlib.Core.Bool.{true};
 ghost use mathlib.Core.Path.{_≡_};
-ghost use Prim.Native.Nat.{_≤_};
+ghost use Prim.Native.Nat.{_+_, _≤_};
+ghost use Rattle.calendar.specs.Window.{windowLast};
 ghost use Rattle.plan.specs.Taken.{start, zoned as zonedAt, lines as linesAt, frameGood, place as placeOf};
 ghost use Rattle.plan.specs.declared.Frame.{Frame};
+ghost use Rattle.zone.specs.Zone.{bias};
 ghost use Rattle.load.specs.Loads.{beforeOf, placedOf};
 use plan::Frame;
+use zone::CHANGES;
 use zone::Transition;
-use zone::num::distance;
+use zone::limits;
 
 // The transitions so far, the least instant that the next may have, and the offset after them.
 pub(crate) struct Edge {
-    pub changes: u64,
+    pub changes: usize,
     pub low: u64,
     pub offset: u64,
 }
@@ -49,25 +52,18 @@ fn first(frame: Frame) -> Placed
 
 // One transition more.
 fn change(edge: Edge, t: Transition) -> Placed
-    requires { ⌜ t .at ≤ 52597439 ⌝ }
+    requires { ⌜ t .at ≤ bias + windowLast ⌝ }
     ensures { λ r. ⌜ placedOf r ≡ placeOf (zonedAt (edge .changes) (edge .low) (edge .offset)) (Frame.Change t) ⌝ }
 {
-    if 31 < edge.changes {
+    if CHANGES <= edge.changes {
         return Placed::Not;
     }
-    if t.at < edge.low {
-        return Placed::Not;
-    }
-    let moved = distance(edge.offset, t.offset);
-    if moved == 0 {
-        return Placed::Not;
-    }
-    if 180 < moved {
+    if !limits::under_limits(edge.low, edge.offset, t) {
         return Placed::Not;
     }
     Placed::Is(Before::Zoned(Edge {
         changes: edge.changes + 1,
-        low: t.at + 2880,
+        low: t.at + limits::DISTANCE,
         offset: t.offset,
     }))
 }

@@ -1,6 +1,6 @@
 // Bits of a mask: bit n stands for n.
 ghost use mathlib.Core.Path.{_≡_};
-ghost use Rattle.masks.specs.Masks.{bit, withBit, nextBit, previousBit, bitsFrom, bitsBelow};
+ghost use Rattle.masks.specs.Masks.{bit, withBit, nextBit, previousBit, bitsFrom};
 
 pub mod time;
 
@@ -52,14 +52,4 @@ pub fn count_from(mask: u64, n: u64) -> u64
         return 0;
     }
     u64::count_ones(mask >> n) as u64
-}
-
-// How many bits below n are set.
-pub fn count_below(mask: u64, n: u64) -> u64
-    ensures { λ r. ⌜ r ≡ bitsBelow mask n ⌝ }
-{
-    if 63 < n {
-        return u64::count_ones(mask) as u64;
-    }
-    u64::count_ones(mask % (1 << n)) as u64
 }

@@ -5,6 +5,9 @@ ghost use Rattle.masks.specs.Times.{nextTime, lastTime};
 use crate::next_bit;
 use crate::previous_bit;
 use crate::test;
+use calendar::window::DAY;
+
+const LAST_MINUTE: u64 = DAY - 1;
 
 // The least held minute from the start of an hour on.
 fn from_hour(hours: u64, minutes: u64, hour: u64) -> u64
@@ -12,11 +15,11 @@ fn from_hour(hours: u64, minutes: u64, hour: u64) -> u64
 {
     let next = next_bit(hours, hour);
     if 23 < next {
-        return 1440;
+        return DAY;
     }
     let first = next_bit(minutes, 0);
     if 59 < first {
-        return 1440;
+        return DAY;
     }
     60 * next + first
 }
@@ -41,8 +44,8 @@ fn before_hour(hours: u64, minutes: u64, hour: u64) -> u64
 pub fn next_time(hours: u64, minutes: u64, t: u64) -> u64
     ensures { λ r. ⌜ r ≡ nextTime hours minutes t ⌝ }
 {
-    if 1439 < t {
-        return 1440;
+    if LAST_MINUTE < t {
+        return DAY;
     }
     if test(hours, t / 60) {
         let minute = next_bit(minutes, t % 60);
@@ -57,7 +60,7 @@ pub fn next_time(hours: u64, minutes: u64, t: u64) -> u64
 pub fn last_time(hours: u64, minutes: u64, t: u64) -> u64
     ensures { λ r. ⌜ r ≡ lastTime hours minutes t ⌝ }
 {
-    if 1439 < t {
+    if LAST_MINUTE < t {
         return before_hour(hours, minutes, 24);
     }
     if test(hours, t / 60) {

@@ -19,13 +19,13 @@ use Rattle.zone.proofs.Good.{Within}
 use Rattle.zone.proofs.Stretches.{instants-range}
 use Rattle.zone.specs.Held.{offsetsOf}
 use Rattle.zone.specs.Stretches.{instantOfLocal}
-use Rattle.zone.specs.Zone.{zoneGood}
-use Rattle.zone.specs.declared.Zone.{Zone}
+use Rattle.zone.specs.Zone.{Offsets, zoneGood}
 use Rattle.next.specs.Instants.{InstantOf}
-use Rattle.next.specs.Plans.{AnswerBy, answerOf, localOf, localBy, localIn}
+use Rattle.next.specs.Plans.{AnswerBy, RightOf, AskedIn, answerOf, foundOf, localOf, localBy, localIn}
 use Rattle.next.specs.declared.Answer.{Answer}
+use Rattle.next.specs.declared.Ask.{Ask}
 use Rattle.next.specs.declared.Found.{Found}
-use Rattle.next.specs.declared.Local.{Local}
+use Rattle.next.proofs.Answered.{next-same, previous-same}
 use Rattle.next.proofs.Planned.{plan-of-row, row-of-plan, answer-found}
 
 pub record Ready (plan : List ℕ) (rows : List (List ℕ)) (count : ℕ) : Type 0 where
@@ -78,33 +78,39 @@ pub answer-refused : (right : List Frame → Found → Type 0) (plan : List ℕ)
 unfolding AnswerBy
 answer-refused right plan k a = rw (load-refused plan k a) refl
 
-module _ (plan : List ℕ) (rows : List (List ℕ)) (count : ℕ) (zone : Zone) (e : zone ≡ zoneOf rows count) (r : Ready plan rows count) where
-  pub zone-ready : offsetsOf zone ≡ planZone (r .frames)
-  zone-ready = ap offsetsOf e ∙ r .zone
+-- what is right of the rows' instants and zone is right of the plan's
+right-same : (p q : ℕ → Type 0) → ((j : ℕ) → p j → q j) → ((j : ℕ) → q j → p j) → (z : Offsets) (ask : Ask) (f : Found) → RightOf p z ask f → RightOf q z ask f
+unfolding RightOf
+right-same p q to back z (Ask.Next i) f a = next-same p q to back i f a
+right-same p q to back z (Ask.Previous i) f a = previous-same p q to back i f a
+right-same p q to back z (Ask.Local m) f a = a
 
-  -- the zone keeps the limits
-  pub good-ready : zoneGood (offsetsOf zone) ≡ true
-  good-ready = ap zoneGood zone-ready ∙ r .good
+module _ (plan : List ℕ) (rows : List (List ℕ)) (count : ℕ) (r : Ready plan rows count) where
+  -- the zone of the rows keeps the limits
+  pub good-ready : zoneGood (offsetsOf (zoneOf rows count)) ≡ true
+  good-ready = ap zoneGood (r .zone) ∙ r .good
 
-  -- the local minute by the plan's zone
-  pub local-ready : (m : ℕ) → localOf (instantOfLocal (offsetsOf zone) m) ≡ localIn plan m
-  unfolding localIn localBy
-  local-ready m = rw (zone-ready, r .is) refl
-
-  -- what is found among the rows is the answer of the plan, for next and for previous
-  pub answer-ready : (Of : (ℕ → Type 0) → Found → Type 0)
-      → ((p q : ℕ → Type 0) → ((j : ℕ) → p j → q j) → ((j : ℕ) → q j → p j) → (f : Found) → Of p f → Of q f)
-      → (f : Found) → Of (InstantOf (listHeld (firstOf count rows)) (offsetsOf zone)) f
-      → AnswerBy (λ (fs : List Frame). Of (PlanInstant fs)) (load plan) (answerOf f)
-  answer-ready Of same f a =
+  -- what is found among the rows is the answer of the plan
+  pub answer-ready : (ask : Ask) (f : Found)
+      → RightOf (InstantOf (listHeld (firstOf count rows)) (offsetsOf (zoneOf rows count))) (offsetsOf (zoneOf rows count)) ask f
+      → AskedIn plan ask (answerOf f)
+  unfolding AskedIn
+  answer-ready ask f a =
       let fs = r .frames in
       rw (r .is)
-      (answer-found (λ (fs : List Frame). Of (PlanInstant fs)) fs f
-      (same _ (PlanInstant fs) (plan-of-row fs) (row-of-plan fs) f (rw (zone-ready, r .held) at a)))
+      (answer-found (λ (fs : List Frame). RightOf (PlanInstant fs) (planZone fs) ask) fs f
+      (right-same _ (PlanInstant fs) (plan-of-row fs) (row-of-plan fs) (planZone fs) ask f (rw (r .zone, r .held) at a)))
 
-pub local-refused : (plan : List ℕ) (m k : ℕ) → loadedAs (load plan) ≡ Loaded.Refused k → Local.Refused k ≡ localIn plan m
-unfolding localIn localBy
-local-refused plan m k a = rw (load-refused plan k a) refl
+-- the answer to a local minute
+pub local-answer : (plan : List ℕ) (m : ℕ) (a : Answer) → AskedIn plan (Ask.Local m) a → localOf a ≡ localIn plan m
+unfolding AskedIn RightOf AnswerBy localIn localBy
+local-answer plan m a = by-load (load plan) a
+  where
+    by-load : (o : Load) (a : Answer) → AnswerBy (λ (fs : List Frame) (r : Found). r ≡ foundOf (instantOfLocal (planZone fs) m)) o a → localOf a ≡ localBy o m
+    by-load (taken fs) (Answer.Is i) e = ap (λ (f : Found). localOf (answerOf f)) e
+    by-load (taken fs) Answer.Never e = ap (λ (f : Found). localOf (answerOf f)) e
+    by-load (taken fs) (Answer.Refused k) e = absurd e
+    by-load (refused k) a e = ap localOf e
 
 -- a plan that is taken has a good zone, so its instants lie within a day of the window
 pub taken-good : (plan : List ℕ) (fs : List Frame) → load plan ≡ taken fs → zoneGood (planZone fs) ≡ true

@@ -3,12 +3,13 @@ use mathlib.Core.Bool.{Bool, true}
 use mathlib.Core.Path.{_≡_}
 use Prim.Native.Nat.{ℕ, _<_}
 use Rattle.zone.specs.Zone.{Offsets, instantOf}
+use Rattle.calendar.specs.Window.{windowMinutes}
 use Rattle.next.specs.declared.Found.{Found}
 
 -- "Then each local minute becomes one instant": i is an instant where a held local minute of the window becomes i
 pub record InstantOf (held : ℕ → Bool) (z : Offsets) (i : ℕ) : Type 0 where
   pub minute : ℕ
-  pub window : minute < 52596000
+  pub window : minute < windowMinutes
   pub holds : held minute ≡ true
   pub becomes : instantOf z minute ≡ i
 

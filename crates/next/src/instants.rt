@@ -1,7 +1,8 @@
 // The next and the previous instant: stretch by stretch, the best found so far bounding the search in the others.
 ghost use mathlib.Core.Bool.{true};
 ghost use mathlib.Core.Path.{_≡_};
-ghost use Prim.Native.Nat.{min};
+ghost use Rattle.signed.specs.Bias.{lastInstant};
+ghost use Prim.Native.Nat.{_+_};
 ghost use Rattle.held.specs.Lists.{listHeld, firstOf};
 ghost use Rattle.zone.specs.Held.{offsetsOf};
 ghost use Rattle.zone.specs.Zone.{zoneGood};
@@ -10,25 +11,26 @@ ghost use Rattle.next.specs.Nearest.{Later, Earlier, Earliest, Latest};
 use crate::Found;
 use crate::stretches::stretch_next;
 use crate::stretches::stretch_previous;
+use calendar::num::fewer;
 use calendar::num::lesser;
+use calendar::window;
+use frames::places::Rows;
+use signed::LAST_INSTANT;
+use zone::CHANGES;
 use zone::Zone;
 use zone::stretch::end_before;
 
-// The transitions of a zone are the first `count` of 32.
-fn places(count: usize) -> usize
-    ensures { λ r. ⌜ r ≡ min count 32 ⌝ }
-{
-    if 32 < count { 32 } else { count }
-}
+// The first instant that none can have.
+const NO_INSTANT: u64 = LAST_INSTANT + 1;
 
-// The earliest instant after `asked`, or 52,598,881.
-pub(crate) fn next_instant(fs: &[[u64; 16]; 64], count: usize, zone: Zone, asked: u64) -> u64
+// The earliest instant after `asked`, or one that none can have.
+pub(crate) fn next_instant(fs: &Rows, count: usize, zone: Zone, asked: u64) -> u64
     requires { ⌜ zoneGood (offsetsOf zone) ≡ true ⌝ }
-    ensures { λ r. ⌜ Earliest (Later asked (InstantOf (listHeld (firstOf count (now (fs .entry)))) (offsetsOf zone))) 52598881 r ⌝ }
+    ensures { λ r. ⌜ Earliest (Later asked (InstantOf (listHeld (firstOf count (now (fs .entry)))) (offsetsOf zone))) (lastInstant + 1) r ⌝ }
 {
-    let after = lesser(asked, 52598880);
-    let n = places(zone.count);
-    let mut best: u64 = 52598881;
+    let after = lesser(asked, LAST_INSTANT);
+    let n = fewer(zone.count, CHANGES);
+    let mut best: u64 = NO_INSTANT;
     let mut from: u64 = 0;
     let mut offset = zone.first;
     let mut k: usize = 0;
@@ -40,18 +42,18 @@ pub(crate) fn next_instant(fs: &[[u64; 16]; 64], count: usize, zone: Zone, asked
         offset = change.offset;
         k += 1;
     }
-    stretch_next(fs, count, offset, from, 52596000, after, best)
+    stretch_next(fs, count, offset, from, window::MINUTES, after, best)
 }
 
 // The latest instant before `asked`, or 0.
-pub(crate) fn previous_instant(fs: &[[u64; 16]; 64], count: usize, zone: Zone, asked: u64) -> u64
+pub(crate) fn previous_instant(fs: &Rows, count: usize, zone: Zone, asked: u64) -> u64
     requires { ⌜ zoneGood (offsetsOf zone) ≡ true ⌝ }
     ensures { λ r. ⌜ Latest (Earlier asked (InstantOf (listHeld (firstOf count (now (fs .entry)))) (offsetsOf zone))) 0 r ⌝ }
 {
-    let before = lesser(asked, 52598880);
+    let before = lesser(asked, LAST_INSTANT);
     let mut best: u64 = 0;
-    let mut end: u64 = 52596000;
-    let mut k = places(zone.count);
+    let mut end: u64 = window::MINUTES;
+    let mut k = fewer(zone.count, CHANGES);
     while 0 < k {
         let change = zone.changes[k - 1];
         let mut earlier = zone.first;
@@ -68,19 +70,19 @@ pub(crate) fn previous_instant(fs: &[[u64; 16]; 64], count: usize, zone: Zone, a
 }
 
 // The next instant as an answer.
-pub(crate) fn next_found(fs: &[[u64; 16]; 64], count: usize, zone: Zone, asked: u64) -> Found
+pub(crate) fn next_found(fs: &Rows, count: usize, zone: Zone, asked: u64) -> Found
     requires { ⌜ zoneGood (offsetsOf zone) ≡ true ⌝ }
     ensures { λ r. ⌜ NextOf (InstantOf (listHeld (firstOf count (now (fs .entry)))) (offsetsOf zone)) asked r ⌝ }
 {
     let instant = next_instant(fs, count, zone, asked);
-    if 52598880 < instant {
+    if LAST_INSTANT < instant {
         return Found::Never;
     }
     Found::Is(instant)
 }
 
 // The previous instant as an answer.
-pub(crate) fn previous_found(fs: &[[u64; 16]; 64], count: usize, zone: Zone, asked: u64) -> Found
+pub(crate) fn previous_found(fs: &Rows, count: usize, zone: Zone, asked: u64) -> Found
     requires { ⌜ zoneGood (offsetsOf zone) ≡ true ⌝ }
     ensures { λ r. ⌜ PreviousOf (InstantOf (listHeld (firstOf count (now (fs .entry)))) (offsetsOf zone)) asked r ⌝ }
 {

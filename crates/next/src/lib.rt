@@ -1,6 +1,13 @@
 // Next and previous of a plan, and the instant of a local minute by its zone.
+ghost use mathlib.Core.Bool.{true};
 ghost use mathlib.Core.Path.{_≡_};
-ghost use Rattle.next.specs.Plans.{NextIn, PreviousIn, answerOf, localIn, localOf};
+ghost use Rattle.held.specs.Lists.{listHeld, firstOf};
+ghost use Rattle.load.specs.Zones.{zoneOf};
+ghost use Rattle.zone.specs.Held.{offsetsOf};
+ghost use Rattle.zone.specs.Zone.{zoneGood};
+ghost use Rattle.next.specs.Instants.{InstantOf};
+ghost use Rattle.next.specs.Plans.{RightOf, AskedIn, NextIn, PreviousIn, answerOf, foundOf, localOf, localIn};
+use frames::places::Rows;
 use instants::next_found;
 use instants::previous_found;
 use load::Loaded;
@@ -10,6 +17,13 @@ use zone::stretch::Instant;
 
 mod instants;
 mod stretches;
+
+// What a plan is asked: its next or previous instant, or the instant of a local minute.
+pub(crate) enum Ask {
+    Next(u64),
+    Previous(u64),
+    Local(u64),
+}
 
 // The instant that is asked for, or that there is none.
 pub enum Found {
@@ -31,6 +45,15 @@ pub enum Local {
     Refused(usize),
 }
 
+fn found_of(instant: Instant) -> Found
+    ensures { λ r. ⌜ r ≡ foundOf instant ⌝ }
+{
+    let Instant::Is(i) = instant else {
+        return Found::Never;
+    };
+    Found::Is(i)
+}
+
 fn answer_of(found: Found) -> Answer
     ensures { λ r. ⌜ r ≡ answerOf found ⌝ }
 {
@@ -40,57 +63,57 @@ fn answer_of(found: Found) -> Answer
     Answer::Is(instant)
 }
 
-fn local_of(found: Instant) -> Local
-    ensures { λ r. ⌜ r ≡ localOf found ⌝ }
+fn local_of(answer: Answer) -> Local
+    ensures { λ r. ⌜ r ≡ localOf answer ⌝ }
 {
-    let Instant::Is(instant) = found else {
-        return Local::Outside;
-    };
-    Local::Is(instant)
+    match answer {
+        Answer::Is(instant) => Local::Is(instant),
+        Answer::Never => Local::Outside,
+        Answer::Refused(line) => Local::Refused(line),
+    }
+}
+
+// What the rows of a taken plan answer.
+fn in_rows(rows: &Rows, count: usize, ask: Ask) -> Found
+    requires { ⌜ zoneGood (offsetsOf (zoneOf (now rows) count)) ≡ true ⌝ }
+    ensures { λ r. ⌜ RightOf (InstantOf (listHeld (firstOf count (now (rows .entry)))) (offsetsOf (zoneOf (now (rows .entry)) count))) (offsetsOf (zoneOf (now (rows .entry)) count)) ask r ⌝ }
+{
+    let zone = zone_of(rows, count);
+    match ask {
+        Ask::Next(asked) => next_found(rows, count, zone, asked),
+        Ask::Previous(asked) => previous_found(rows, count, zone, asked),
+        Ask::Local(m) => found_of(stretch::instant_of_local(zone, m)),
+    }
+}
+
+// Opens a plan and asks it.
+fn in_plan(plan: &[u8], ask: Ask) -> Answer
+    ensures { λ r. ⌜ AskedIn (now (plan .entry)) ask r ⌝ }
+{
+    let mut rows = load::fresh_rows();
+    match load::load(plan, &mut rows) {
+        Loaded::Refused(line) => Answer::Refused(line),
+        Loaded::Taken(count) => answer_of(in_rows(&rows, count, ask)),
+    }
 }
 
 // The first instant of the plan that is later than `asked`.
 pub fn next(plan: &[u8], asked: u64) -> Answer
     ensures { λ r. ⌜ NextIn (now (plan .entry)) asked r ⌝ }
 {
-    // Ones, since a fill by zeros is a memset, which may go byte by byte.
-    let row = [1u64; 16];
-    let mut rows = [row; 64];
-    match load::load(plan, &mut rows) {
-        Loaded::Refused(line) => Answer::Refused(line),
-        Loaded::Taken(count) => {
-            let zone = zone_of(&rows, count);
-            answer_of(next_found(&rows, count, zone, asked))
-        }
-    }
+    in_plan(plan, Ask::Next(asked))
 }
 
 // The last instant of the plan that is earlier than `asked`.
 pub fn previous(plan: &[u8], asked: u64) -> Answer
     ensures { λ r. ⌜ PreviousIn (now (plan .entry)) asked r ⌝ }
 {
-    let row = [1u64; 16];
-    let mut rows = [row; 64];
-    match load::load(plan, &mut rows) {
-        Loaded::Refused(line) => Answer::Refused(line),
-        Loaded::Taken(count) => {
-            let zone = zone_of(&rows, count);
-            answer_of(previous_found(&rows, count, zone, asked))
-        }
-    }
+    in_plan(plan, Ask::Previous(asked))
 }
 
 // The instant of a local minute by the plan's zone.
 pub fn instant_of_local(plan: &[u8], m: u64) -> Local
     ensures { λ r. ⌜ r ≡ localIn (now (plan .entry)) m ⌝ }
 {
-    let row = [1u64; 16];
-    let mut rows = [row; 64];
-    match load::load(plan, &mut rows) {
-        Loaded::Refused(line) => Local::Refused(line),
-        Loaded::Taken(count) => {
-            let zone = zone_of(&rows, count);
-            local_of(stretch::instant_of_local(zone, m))
-        }
-    }
+    local_of(in_plan(plan, Ask::Local(m)))
 }

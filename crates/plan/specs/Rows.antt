@@ -2,18 +2,19 @@
 use mathlib.Core.List.{List, [], _∷_, _++_}
 use Prim.Native.Nat.{ℕ}
 use lib.ListN.{take, replicate}
+use Rattle.frames.specs.Kinds.{offsetKind, changeKind, cronKind, ruleKind, extraKind, exceptedKind, endKind}
 use Rattle.plan.specs.declared.Frame.{Frame}
 
 abbrev pub sixteen : List ℕ → List ℕ
 sixteen l = take 16 (l ++ replicate 16 0)
 
 unfoldable pub rowOf : Frame → List ℕ
-rowOf (Frame.Offset o) = sixteen (1 ∷ o ∷ [])
-rowOf (Frame.Change t) = sixteen (2 ∷ t .at ∷ t .offset ∷ [])
-rowOf (Frame.Cron f) = sixteen (3 ∷ f .minutes ∷ f .hours ∷ f .days ∷ f .months ∷ f .weekdays ∷ f .flags ∷ [])
+rowOf (Frame.Offset o) = sixteen (offsetKind ∷ o ∷ [])
+rowOf (Frame.Change t) = sixteen (changeKind ∷ t .at ∷ t .offset ∷ [])
+rowOf (Frame.Cron f) = sixteen (cronKind ∷ f .minutes ∷ f .hours ∷ f .days ∷ f .months ∷ f .weekdays ∷ f .flags ∷ [])
 rowOf (Frame.Rule f) =
     sixteen
-    (4
+    (ruleKind
     ∷ f .frequency
     ∷ f .interval
     ∷ f .start
@@ -26,6 +27,6 @@ rowOf (Frame.Rule f) =
     ∷ f .positions .front
     ∷ f .positions .back
     ∷ [])
-rowOf (Frame.Extra m) = sixteen (5 ∷ m ∷ [])
-rowOf (Frame.Excepted m) = sixteen (6 ∷ m ∷ [])
-rowOf (Frame.End n) = sixteen (255 ∷ n ∷ [])
+rowOf (Frame.Extra m) = sixteen (extraKind ∷ m ∷ [])
+rowOf (Frame.Excepted m) = sixteen (exceptedKind ∷ m ∷ [])
+rowOf (Frame.End n) = sixteen (endKind ∷ n ∷ [])

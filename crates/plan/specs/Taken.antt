@@ -12,7 +12,8 @@ use Rattle.frames.specs.declared.Ends.{Ends}
 use Rattle.frames.specs.declared.Rule.{Rule}
 use Rattle.lines.specs.Lines.{linesOf}
 use Rattle.masks.specs.Masks.{bit}
-use Rattle.zone.specs.Zone.{offsetInRange, underLimits, inWindow}
+use Rattle.zone.specs.Zone.{offsetInRange, underLimits, inWindow, inRange, mostChanges, distance}
+use Rattle.frames.specs.Kinds.{isDaily, isWeekly, isMonthly}
 use Rattle.plan.specs.Text.{lineFrame}
 use Rattle.plan.specs.declared.Frame.{Frame}
 
@@ -56,9 +57,9 @@ placesGood f =
 -- "daily: ordinals and positions zero; weekly: weekday mask set, all else after it zero; monthly: at least one month day or weekday set"
 unfoldable pub frequencyGood : Rule → Bool
 frequencyGood f =
-    eqb (f .frequency) 1 && (noLimit (f .ordinals) && noLimit (f .positions))
-    || (eqb (f .frequency) 2 && (ltb 0 (f .weekdays) && (noLimit (f .days) && (noLimit (f .ordinals) && noLimit (f .positions))))
-    || eqb (f .frequency) 3 && not (eqb (f .weekdays) 0 && (noLimit (f .days) && noLimit (f .ordinals))))
+    isDaily f && (noLimit (f .ordinals) && noLimit (f .positions))
+    || (isWeekly f && (ltb 0 (f .weekdays) && (noLimit (f .days) && (noLimit (f .ordinals) && noLimit (f .positions))))
+    || isMonthly f && not (eqb (f .weekdays) 0 && (noLimit (f .days) && noLimit (f .ordinals))))
 
 -- "interval 1 to 999; local minutes in range; start not above last; start an occurrence"
 unfoldable pub ruleGood : Rule → Bool
@@ -70,7 +71,7 @@ ruleGood f =
 -- a frame by itself
 unfoldable pub frameGood : Frame → Bool
 frameGood (Frame.Offset o) = offsetInRange o
-frameGood (Frame.Change t) = within 1440 52597439 (t .at) && offsetInRange (t .offset)
+frameGood (Frame.Change t) = inRange t
 frameGood (Frame.Cron f) = cronGood f
 frameGood (Frame.Rule f) = ruleGood f
 frameGood (Frame.Extra m) = inWindow m
@@ -93,7 +94,7 @@ place start (Frame.Extra m) = none
 place start (Frame.Excepted m) = none
 place start (Frame.End n) = none
 place (zoned k low offset) (Frame.Offset o) = none
-place (zoned k low offset) (Frame.Change t) = cond (ltb k 32 && underLimits low offset t) (some (zoned (suc k) (t .at + 2880) (t .offset))) none
+place (zoned k low offset) (Frame.Change t) = cond (ltb k mostChanges && underLimits low offset t) (some (zoned (suc k) (t .at + distance) (t .offset))) none
 place (zoned k low offset) (Frame.Cron f) = some lines
 place (zoned k low offset) (Frame.Rule f) = some lines
 place (zoned k low offset) (Frame.Extra m) = some lines

@@ -10,11 +10,13 @@ use Rattle.frames.specs.declared.Ends.{Ends}
 use Rattle.frames.specs.declared.Rule.{Rule}
 use Rattle.hex.specs.Hex.{hexOf, lineBytes, field}
 use Rattle.zone.specs.declared.Transition.{Transition}
+use Rattle.frames.specs.Kinds.{offsetKind, changeKind, cronKind, ruleKind, extraKind, exceptedKind, endKind}
+use Rattle.zone.specs.Zone.{bias}
 use Rattle.plan.specs.declared.Frame.{Frame}
 
 -- "Offsets and instants in two's complement": what the inside has moved up by a day, as a number of k bytes
 unfoldable pub moved : ℕ → ℕ → ℕ
-moved k v = (v + 256 ^ k - 1440) % 256 ^ k
+moved k v = (v + 256 ^ k - bias) % 256 ^ k
 
 -- a frame with its offsets and instants so
 unfoldable pub movedFrame : Frame → Frame
@@ -60,7 +62,7 @@ planText (f ∷ fs) = frameLine f ++ (10 ∷ planText fs)
 
 -- a field of two's complement, moved up by a day; `get at k` is the number of the k bytes from a place on
 abbrev pub movedUp : (ℕ → ℕ → ℕ) → ℕ → ℕ → ℕ
-movedUp get at k = (get at k + 1440) % 256 ^ k
+movedUp get at k = (get at k + bias) % 256 ^ k
 
 abbrev pub changeFrom : (ℕ → ℕ → ℕ) → Transition
 changeFrom get = record { at = movedUp get 1 4; offset = movedUp get 5 2 }
@@ -90,12 +92,12 @@ ruleFrom get =
 unfoldable pub frameFrom : (ℕ → ℕ → ℕ) → ℕ → Option Frame
 frameFrom get n =
     let is : ℕ → ℕ → Bool = λ kind size. eqb (get 0 1) kind && eqb n size in
-    cond (is 1 3) (some (Frame.Offset (movedUp get 1 2)))
-    (cond (is 2 7) (some (Frame.Change (changeFrom get)))
-    (cond (is 3 21) (some (Frame.Cron (cronFrom get)))
-    (cond (is 4 39) (some (Frame.Rule (ruleFrom get)))
-    (cond (is 5 5) (some (Frame.Extra (get 1 4)))
-    (cond (is 6 5) (some (Frame.Excepted (get 1 4))) (cond (is 255 2) (some (Frame.End (get 1 1))) none))))))
+    cond (is offsetKind 3) (some (Frame.Offset (movedUp get 1 2)))
+    (cond (is changeKind 7) (some (Frame.Change (changeFrom get)))
+    (cond (is cronKind 21) (some (Frame.Cron (cronFrom get)))
+    (cond (is ruleKind 39) (some (Frame.Rule (ruleFrom get)))
+    (cond (is extraKind 5) (some (Frame.Extra (get 1 4)))
+    (cond (is exceptedKind 5) (some (Frame.Excepted (get 1 4))) (cond (is endKind 2) (some (Frame.End (get 1 1))) none))))))
 
 unfoldable pub bytesFrame : List ℕ → Option Frame
 bytesFrame b = frameFrom (field b) (length b)

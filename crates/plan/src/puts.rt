@@ -7,7 +7,18 @@ ghost use Rattle.hex.specs.Hex.{putAt};
 ghost use Rattle.plan.specs.Fits.{frameWidths, pairsAt};
 ghost use Rattle.plan.specs.Text.{moved, movedFrame, frameLine};
 use crate::Frame;
+use frames::places::NUMBERS;
+use frames::places::Row;
 use zone::Transition;
+
+// The numbers of two bytes.
+pub(crate) const TWO_BYTES: u64 = 65536;
+// The numbers of four bytes.
+pub(crate) const FOUR_BYTES: u64 = 4294967296;
+// An offset moved down by a day.
+const OFFSET_DOWN: u64 = TWO_BYTES - zone::BIAS;
+// An instant moved down by a day.
+const INSTANT_DOWN: u64 = FOUR_BYTES - zone::BIAS;
 
 // The bytes of the line without its LF.
 pub(crate) fn size_of(frame: Frame) -> usize
@@ -25,7 +36,7 @@ pub(crate) fn size_of(frame: Frame) -> usize
 }
 
 // How many bytes the kind and each field have.
-pub(crate) fn widths_of(frame: Frame) -> [usize; 16]
+pub(crate) fn widths_of(frame: Frame) -> [usize; NUMBERS]
     ensures { λ r. ⌜ r ≡ frameWidths frame ⌝ }
 {
     match frame {
@@ -43,13 +54,13 @@ pub(crate) fn widths_of(frame: Frame) -> [usize; 16]
 fn moved_offset(v: u64) -> u64
     ensures { λ r. ⌜ r ≡ moved 2 v ⌝ }
 {
-    (v % 65536 + 64096) % 65536
+    (v % TWO_BYTES + OFFSET_DOWN) % TWO_BYTES
 }
 
 fn moved_instant(v: u64) -> u64
     ensures { λ r. ⌜ r ≡ moved 4 v ⌝ }
 {
-    (v % 4294967296 + 4294965856) % 4294967296
+    (v % FOUR_BYTES + INSTANT_DOWN) % FOUR_BYTES
 }
 
 // The frame with its offsets and instants as its line has them.
@@ -71,13 +82,13 @@ pub(crate) fn moved_frame(frame: Frame) -> Frame
 }
 
 // Puts each number as so many bytes, one after the other.
-pub(crate) fn put_row(buf: &mut [u8], at: usize, sizes: &[usize; 16], row: &[u64; 16])
+pub(crate) fn put_row(buf: &mut [u8], at: usize, sizes: &[usize; NUMBERS], row: &Row)
     requires { ⌜ at + 2 * total (widths (pairsAt (now sizes) (now row) 0)) ≤ length (now buf) ⌝ }
     ensures { λ _. ⌜ now (buf .exit) ≡ putAt (now (buf .entry)) at (hexes (pairsAt (now (sizes .entry)) (now (row .entry)) 0)) ⌝ }
 {
     let mut place = at;
     let mut i = 0;
-    while i < 16 {
+    while i < NUMBERS {
         let k = sizes[i];
         hex::put(buf, place, k, row[i]);
         place = place + 2 * k;

@@ -1,9 +1,7 @@
 // A plan's lines as frames, and frames as rows of numbers.
 ghost use mathlib.Core.Path.{_≡_};
-ghost use mathlib.Core.Bool.{_&&_};
 ghost use mathlib.Core.List.{[], _∷_};
 ghost use Prim.Native.Nat.{_+_, _/_, _≤_};
-ghost use lib.Dec.{eqb};
 ghost use lib.ListN.{length};
 ghost use Rattle.hex.specs.Hex.{numberAt, putAt, pastPut};
 ghost use Rattle.plan.specs.Read.{lineOf, lineRead};
@@ -14,6 +12,9 @@ use crate::puts;
 use frames::Cron;
 use frames::Ends;
 use frames::Rule;
+use frames::kinds;
+use frames::places::Row;
+use frames::truth::both;
 use zone::Transition;
 
 // What a line is read as.
@@ -26,13 +27,13 @@ pub enum Line {
 fn offset_at(line: &[u8], at: usize) -> u64
     ensures { λ r. ⌜ r ≡ movedUp (numberAt (now (line .entry))) at 2 ⌝ }
 {
-    (hex::number(line, at, 2) + 1440) % 65536
+    (hex::number(line, at, 2) + zone::BIAS) % puts::TWO_BYTES
 }
 
 fn instant_at(line: &[u8], at: usize) -> u64
     ensures { λ r. ⌜ r ≡ movedUp (numberAt (now (line .entry))) at 4 ⌝ }
 {
-    (hex::number(line, at, 4) + 1440) % 4294967296
+    (hex::number(line, at, 4) + zone::BIAS) % puts::FOUR_BYTES
 }
 
 fn cron_of(line: &[u8]) -> Cron
@@ -82,37 +83,31 @@ fn change_of(line: &[u8]) -> Transition
     }
 }
 
-fn is(kind: u64, k: u64, bytes: usize, n: usize) -> bool
-    ensures { λ r. ⌜ r ≡ (eqb kind k && eqb bytes n) ⌝ }
-{
-    if kind == k { bytes == n } else { false }
-}
-
 // The frame of a line of digits, by its kind and its number of bytes.
 fn frame_of(line: &[u8]) -> Line
     ensures { λ r. ⌜ r ≡ lineOf (frameFrom (numberAt (now (line .entry))) (length (now (line .entry)) / 2)) ⌝ }
 {
     let kind = hex::number(line, 0, 1);
     let n = line.len() / 2;
-    if is(kind, 1, n, 3) {
+    if both(kind == kinds::OFFSET, n == 3) {
         return Line::Is(Frame::Offset(offset_at(line, 1)));
     }
-    if is(kind, 2, n, 7) {
+    if both(kind == kinds::CHANGE, n == 7) {
         return Line::Is(Frame::Change(change_of(line)));
     }
-    if is(kind, 3, n, 21) {
+    if both(kind == kinds::CRON, n == 21) {
         return Line::Is(Frame::Cron(cron_of(line)));
     }
-    if is(kind, 4, n, 39) {
+    if both(kind == kinds::RULE, n == 39) {
         return Line::Is(Frame::Rule(rule_of(line)));
     }
-    if is(kind, 5, n, 5) {
+    if both(kind == kinds::EXTRA, n == 5) {
         return Line::Is(Frame::Extra(hex::number(line, 1, 4)));
     }
-    if is(kind, 6, n, 5) {
+    if both(kind == kinds::EXCEPTED, n == 5) {
         return Line::Is(Frame::Excepted(hex::number(line, 1, 4)));
     }
-    if is(kind, 255, n, 2) {
+    if both(kind == kinds::END, n == 2) {
         return Line::Is(Frame::End(hex::number(line, 1, 1)));
     }
     Line::Not
@@ -128,17 +123,17 @@ pub fn read(line: &[u8]) -> Line
     Line::Not
 }
 
-fn short_row(kind: u64, a: u64, b: u64) -> [u64; 16]
+fn short_row(kind: u64, a: u64, b: u64) -> Row
     ensures { λ r. ⌜ r ≡ sixteen (kind ∷ a ∷ b ∷ []) ⌝ }
 {
     [kind, a, b, 0, 0, 0, 0, 0, 0, 0, 0, 0, 0, 0, 0, 0]
 }
 
-fn cron_row(f: Cron) -> [u64; 16]
+fn cron_row(f: Cron) -> Row
     ensures { λ r. ⌜ r ≡ rowOf (Frame.Cron f) ⌝ }
 {
     [
-        3,
+        kinds::CRON,
         f.minutes,
         f.hours,
         f.days,
@@ -157,14 +152,14 @@ fn cron_row(f: Cron) -> [u64; 16]
     ]
 }
 
-fn rule_row(f: Rule) -> [u64; 16]
+fn rule_row(f: Rule) -> Row
     ensures { λ r. ⌜ r ≡ rowOf (Frame.Rule f) ⌝ }
 {
     let d = f.days;
     let o = f.ordinals;
     let p = f.positions;
     [
-        4,
+        kinds::RULE,
         f.frequency,
         f.interval,
         f.start,
@@ -184,17 +179,17 @@ fn rule_row(f: Rule) -> [u64; 16]
 }
 
 // A frame as the sixteen numbers that the search holds.
-pub fn row_of(frame: Frame) -> [u64; 16]
+pub fn row_of(frame: Frame) -> Row
     ensures { λ r. ⌜ r ≡ rowOf frame ⌝ }
 {
     match frame {
-        Frame::Offset(o) => short_row(1, o, 0),
-        Frame::Change(t) => short_row(2, t.at, t.offset),
+        Frame::Offset(o) => short_row(kinds::OFFSET, o, 0),
+        Frame::Change(t) => short_row(kinds::CHANGE, t.at, t.offset),
         Frame::Cron(f) => cron_row(f),
         Frame::Rule(f) => rule_row(f),
-        Frame::Extra(m) => short_row(5, m, 0),
-        Frame::Excepted(m) => short_row(6, m, 0),
-        Frame::End(n) => short_row(255, n, 0),
+        Frame::Extra(m) => short_row(kinds::EXTRA, m, 0),
+        Frame::Excepted(m) => short_row(kinds::EXCEPTED, m, 0),
+        Frame::End(n) => short_row(kinds::END, n, 0),
     }
 }
 

@@ -6,7 +6,7 @@ use mathlib.Core.Path.{_≡_}
 use Prim.Native.Nat.{ℕ, _+_, _-_, _/_, _%_}
 use lib.Dec.{leb, eqb}
 use Rattle.calendar.specs.Below.{within, anyOf, countFrom}
-use Rattle.calendar.specs.Window.{monthFirst, localDate, localWeekday, localWeek, fromEnd}
+use Rattle.calendar.specs.Window.{monthFirst, localDate, localWeekday, localWeek, fromEnd, dayMinutes}
 use Rattle.zone.specs.Zone.{Offsets, instantOf, inWindow}
 use Rattle.zone.specs.declared.Transition.{Transition}
 use Rattle.sheet.specs.Form.{Time, Element, one, range, Field, star, list, Entry, plain, ordinal, Frequency, daily, weekly, monthly, Form, zone, change, cron, rule, extra, except}
@@ -32,8 +32,8 @@ restricted (list es) = true
 -- if day of month and day of week are both restricted, either suffices; else both must match."
 unfoldable pub cronHolds : Field → Field → Field → Field → Field → ℕ → Bool
 cronHolds minute hour day month weekday m =
-    let d = m / 1440 in
-    let t = m % 1440 in
+    let d = m / dayMinutes in
+    let t = m % dayMinutes in
     let dayOk = fieldHas day (localDate d .day) in
     let weekdayOk = fieldHas weekday (localWeekday d) in
     fieldHas minute (t % 60)
@@ -105,7 +105,7 @@ occursOn f g first d =
 
 -- COUNT and UNTIL left out; "the time of day is the start's"
 unfoldable pub occursAt : Given → ℕ → ℕ → Bool
-occursAt g start m = occursOn (Option·getD (g .frequency) daily) g (start / 1440) (m / 1440) && eqb (m % 1440) (start % 1440)
+occursAt g start m = occursOn (Option·getD (g .frequency) daily) g (start / dayMinutes) (m / dayMinutes) && eqb (m % dayMinutes) (start % dayMinutes)
 
 withinCount : Option ℕ → (ℕ → Bool) → Bool
 withinCount none test = true
@@ -120,9 +120,9 @@ unfoldable pub ruleHolds : Given → ℕ → ℕ → Bool
 unfolding withinCount withinUntil
 ruleHolds g start m =
     let f = Option·getD (g .frequency) daily in
-    let first = start / 1440 in
+    let first = start / dayMinutes in
     elim (occursAt g start m) [
-      | true ↦ withinUntil (g .until) m && withinCount (g .count) (λ c. leb (countFrom (occursOn f g first) (m / 1440 + 1 - first) first) c)
+      | true ↦ withinUntil (g .until) m && withinCount (g .count) (λ c. leb (countFrom (occursOn f g first) (m / dayMinutes + 1 - first) first) c)
       | false ↦ false
     ]
 

@@ -2,6 +2,7 @@
 use mathlib.Core.Bool.{Bool, true, false}
 use Prim.Native.Nat.{ℕ, suc}
 use lib.Dec.{ltb}
+use Rattle.zone.specs.Zone.{mostChanges}
 use Rattle.sheet.specs.Form.{Form, zone, change, cron, rule, extra, except}
 
 -- what stands before a line: nothing, a Z and so many T, or more
@@ -29,7 +30,7 @@ inPlace start (rule t ps) = false
 inPlace start (extra t) = false
 inPlace start (except t) = false
 inPlace (zoned k) (zone s) = false
-inPlace (zoned k) (change t s) = ltb k 32
+inPlace (zoned k) (change t s) = ltb k mostChanges
 inPlace (zoned k) (cron m h d mo w) = true
 inPlace (zoned k) (rule t ps) = true
 inPlace (zoned k) (extra t) = true

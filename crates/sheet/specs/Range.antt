@@ -4,6 +4,8 @@ use Prim.Native.Nat.{ℕ, _+_, _-_, _*_}
 use lib.Dec.{leb}
 use Rattle.calendar.specs.Below.{within, allOf}
 use Rattle.calendar.specs.Calendar.{leapYear, monthLength, dayOf}
+use Rattle.calendar.specs.Window.{dayMinutes, windowFirst}
+use Rattle.zone.specs.Zone.{bias}
 use Rattle.sheet.specs.Form.{Time, Shift, Element, one, range, Field, star, list, Entry, plain, ordinal, Part, freq, interval, count, until, byDay, byMonthDay, bySetPos, Form, zone, change, cron, rule, extra, except}
 use Rattle.sheet.specs.Words.{Signed}
 
@@ -13,13 +15,13 @@ timeInRange t =
     within 2000 2099 (t .year)
     && (within 1 (monthLength (leapYear (t .year)) (t .month)) (t .day) && (leb (t .hour) 23 && leb (t .minute) 59))
 
--- "Local minutes count from 2000-01-01 00:00", day 730,119 of the calendar
+-- "Local minutes count from 2000-01-01 00:00"
 unfoldable pub minuteOf : Time → ℕ
-minuteOf t = 1440 * (dayOf (t .year) (t .month) (t .day) - 730119) + (60 * t .hour + t .minute)
+minuteOf t = dayMinutes * (dayOf (t .year) (t .month) (t .day) - windowFirst) + (60 * t .hour + t .minute)
 
 -- an instant is moved up by a day
 unfoldable pub instantOfTime : Time → ℕ
-instantOfTime t = minuteOf t + 1440
+instantOfTime t = minuteOf t + bias
 
 unfoldable pub shiftMinutes : Shift → ℕ
 shiftMinutes s = 60 * s .hours + s .minutes
@@ -32,7 +34,7 @@ shiftInRange s =
 
 -- and so is an offset
 unfoldable pub offsetOfShift : Shift → ℕ
-offsetOfShift s = cond (s .minus) (1440 - shiftMinutes s) (1440 + shiftMinutes s)
+offsetOfShift s = cond (s .minus) (bias - shiftMinutes s) (bias + shiftMinutes s)
 
 -- "both ends counted, the first not above the second"
 unfoldable pub elementInRange : ℕ → ℕ → Element → Bool

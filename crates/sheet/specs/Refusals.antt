@@ -7,7 +7,7 @@ use lib.Dec.{leb, ltb, eqb}
 use lib.ListN.{length}
 use Rattle.calendar.specs.Below.{within, allOf}
 use Rattle.lines.specs.Lines.{linesOf}
-use Rattle.zone.specs.Zone.{underLimits}
+use Rattle.zone.specs.Zone.{underLimits, distance}
 use Rattle.sheet.specs.Form.{Time, Form, zone, change, cron, rule, extra, except, formOf}
 use Rattle.sheet.specs.Meaning.{occursAt}
 use Rattle.sheet.specs.Parts.{givenOf, partsTogether}
@@ -22,7 +22,7 @@ pub record Context : Type 0 where
 
 unfoldable pub contextAfter : Context → Form → Context
 contextAfter c (zone s) = record { before = after (c .before) (zone s); low = 0; offset = offsetOfShift s }
-contextAfter c (change t s) = record { before = after (c .before) (change t s); low = instantOfTime t + 2880; offset = offsetOfShift s }
+contextAfter c (change t s) = record { before = after (c .before) (change t s); low = instantOfTime t + distance; offset = offsetOfShift s }
 contextAfter c (cron m h d mo w) = record { before = lines; low = c .low; offset = c .offset }
 contextAfter c (rule t ps) = record { before = lines; low = c .low; offset = c .offset }
 contextAfter c (extra t) = record { before = lines; low = c .low; offset = c .offset }

@@ -1,20 +1,16 @@
 -- The transitions that a zone holds in its array of 32.
-use mathlib.Core.Bool.{true, false}
 use mathlib.Core.List.{List, [], _∷_, _++_}
 use mathlib.Core.Path.{_≡_, refl, sym, ap, _∙_}
 use Prim.Native.Nat.{ℕ, zero, suc, _+_, _-_, _<_, _≤_, min}
 use native.Mathlib.Numerals.{add-one}
 use native.Mathlib.Omega.{arith}
-use borrow.Author.Tests.{lt-ltb, le-ltb}
-use lib.Dec.{ltb}
-use lib.ListN.{length, getD, take, drop, set, length-map, length-take, drop-of-length-le}
-use lib.Seq.{drop-cons, take-all, take-suc, take-take, getD-take, take-suc-set}
+use lib.ListN.{length, getD, take, drop, length-map, length-take, drop-of-length-le}
+use lib.Seq.{drop-cons, take-all, take-suc, take-take, getD-take}
 use denote.Laws.{Is}
 use denote.Struct.Declared.{row}
 use denote.Struct.Laws.{val}
 use Rattle.zone.specs.Held.{offsetsOf}
-use Rattle.zone.specs.Limits.{offsetAfter, lowAfter}
-use Rattle.zone.specs.Stretches.{boundary, endIn, stretchOffset}
+use Rattle.zone.specs.Stretches.{offsetAfter, boundary, endIn, stretchOffset}
 use Rattle.zone.specs.declared.Transition.{Transition}
 use Rattle.zone.specs.declared.Zone.{Zone}
 use Rattle.zone.proofs.Good.{by-order}
@@ -34,11 +30,6 @@ offset-last : (offset : ℕ) (ts : List Transition) (t : Transition) → offsetA
 unfolding offsetAfter
 offset-last offset [] t = refl
 offset-last offset (u ∷ ts) t = offset-last (u .offset) ts t
-
-low-last : (low : ℕ) (ts : List Transition) (t : Transition) → lowAfter low (ts ++ (t ∷ [])) ≡ t .at + 2880
-unfolding lowAfter
-low-last low [] t = refl
-low-last low (u ∷ ts) t = low-last (u .at + 2880) ts t
 
 -- where stretch k ends, by its offset and the transition after it
 end-is : (offset : ℕ) (ts : List Transition) (k : ℕ) (d : Transition)
@@ -62,12 +53,6 @@ module _ (z : Zone) (passed : Passed z) where
   unfolding offsetsOf
   held-length = omega (arith, whole, length-take (z .count) (z .changes))
 
-  pub held-place : z .count ≤ 31 → ltb (length (offsetsOf z .changes)) 32 ≡ true
-  held-place l = lt-ltb (length (offsetsOf z .changes)) 32 (omega (arith, held-length))
-
-  pub held-full : 31 < z .count → ltb (length (offsetsOf z .changes)) 32 ≡ false
-  held-full l = le-ltb (length (offsetsOf z .changes)) 32 (omega (arith, held-length))
-
   held-front : offsetsOf z .changes ≡ take (min (z .count) 32) (z .changes)
   unfolding offsetsOf
   held-front = ap (λ (l : List Transition). take (z .count) l) (sym (take-all 32 (z .changes) (omega (arith, whole)))) ∙ take-both (z .count) 32 (z .changes)
@@ -85,10 +70,7 @@ module _ (z : Zone) (passed : Passed z) where
       let q : min k (min (z .count) 32) ≡ suc (n - 1) = omega arith in
       held-take k ∙ ap (λ (n : ℕ). take n (z .changes)) q ∙ take-suc (z .changes) (n - 1) _ (omega (arith, whole))
 
-  held-all : take 32 (offsetsOf z .changes) ≡ offsetsOf z .changes
-  held-all = take-all 32 (offsetsOf z .changes) (omega (arith, held-length))
-
-  -- the offset after the first k, and after all
+  -- the offset after the first k
   pub held-offset-first : (k : ℕ) → min k (min (z .count) 32) ≡ 0 → stretchOffset (offsetsOf z) k ≡ z .first
   unfolding stretchOffset offsetAfter offsetsOf
   held-offset-first k e = ap (offsetAfter (z .first)) (held-none k e)
@@ -96,18 +78,6 @@ module _ (z : Zone) (passed : Passed z) where
   pub held-offset : (k n : ℕ) → n ≡ min k (min (z .count) 32) → (n ≡ 0 → ⊥) → stretchOffset (offsetsOf z) k ≡ heldAt z (n - 1) .offset
   unfolding stretchOffset offsetsOf
   held-offset k n e p = ap (offsetAfter (z .first)) (held-some k n e p) ∙ offset-last (z .first) (take (n - 1) (z .changes)) _
-
-  pub held-offset-all : offsetAfter (offsetsOf z .first) (offsetsOf z .changes) ≡ stretchOffset (offsetsOf z) 32
-  unfolding stretchOffset
-  held-offset-all = ap (offsetAfter (offsetsOf z .first)) (sym held-all)
-
-  -- the least instant allowed after all
-  pub held-low-first : min (z .count) 32 ≡ 0 → lowAfter 0 (offsetsOf z .changes) ≡ 0
-  unfolding lowAfter
-  held-low-first e = ap (lowAfter 0) (sym held-all ∙ held-none 32 (omega arith))
-
-  pub held-low : (n : ℕ) → n ≡ min (z .count) 32 → (n ≡ 0 → ⊥) → lowAfter 0 (offsetsOf z .changes) ≡ heldAt z (n - 1) .at + 2880
-  held-low n e p = ap (lowAfter 0) (sym held-all ∙ held-some 32 n (omega arith) p) ∙ low-last 0 (take (n - 1) (z .changes)) _
 
   held-at : (k : ℕ) → k < min (z .count) 32 → getD (offsetsOf z .changes) k (record { at = 0; offset = 0 }) ≡ heldAt z k
   unfolding offsetsOf
@@ -126,8 +96,3 @@ module _ (z : Zone) (passed : Passed z) where
   pub held-end : (k : ℕ) → k < min (z .count) 32 → endIn (offsetsOf z .first) (offsetsOf z .changes) k ≡ boundary (stretchOffset (offsetsOf z) k) (heldAt z k)
   unfolding stretchOffset
   held-end k l = rw (← held-at k l) (end-is (offsetsOf z .first) (offsetsOf z .changes) k _ (omega (arith, held-length)))
-
-  -- one more in the next place
-  pub held-added : (t : Transition) → z .count < 32 → take (z .count + 1) (set (z .changes) (z .count) t) ≡ offsetsOf z .changes ++ (t ∷ [])
-  unfolding offsetsOf
-  held-added t l = rw add-one (take-suc-set (z .changes) (z .count) t (omega (arith, whole)))

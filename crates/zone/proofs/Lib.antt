@@ -3,5 +3,4 @@ pub mod Good
 pub mod Meaning
 pub mod Stretches
 pub mod Shown
-pub mod Adding
 pub mod Held

@@ -8,8 +8,7 @@ use borrow.Author.Tests.{le-leb, lt-leb, lt-ltb, le-ltb, eq-eqb, ne-eqb}
 use lib.Dec.{T}
 use lib.ListN.{take}
 use Rattle.calendar.specs.Below.{leastFrom}
-use Rattle.zone.specs.Limits.{offsetAfter}
-use Rattle.zone.specs.Stretches.{split, stretchOffset, stretchIn, stretchOf, stretchInstant}
+use Rattle.zone.specs.Stretches.{offsetAfter, split, stretchOffset, stretchIn, stretchOf, stretchInstant}
 use Rattle.zone.specs.Zone.{Offsets, offsetFrom, offsetAt, shows, gapInstant, instantOf, transitionsGood, zoneGood}
 use Rattle.zone.specs.declared.Transition.{Transition}
 use Rattle.zone.proofs.Good.{by-order, Within, GoodHead, good-head, offset-before, offset-until, offset-since, shown-since, offset-range, good-zone}

@@ -6,8 +6,7 @@ use Prim.Native.Nat.{ℕ, _+_, _-_, _<_, _≤_}
 use native.Mathlib.Omega.{arith}
 use borrow.Author.Tests.{le-leb, lt-leb, lt-ltb, le-ltb}
 use lib.Dec.{T}
-use Rattle.zone.specs.Limits.{offsetAfter}
-use Rattle.zone.specs.Stretches.{split, stretchInstant, stretchOffset, stretchOf, stretchIn, secondPassIn, secondPass}
+use Rattle.zone.specs.Stretches.{offsetAfter, split, stretchInstant, stretchOffset, stretchOf, stretchIn, secondPassIn, secondPass}
 use Rattle.zone.specs.Zone.{Offsets, offsetFrom, offsetAt, gapInstant, instantOf, transitionsGood, zoneGood}
 use Rattle.zone.specs.declared.Transition.{Transition}
 use Rattle.zone.proofs.Good.{by-order, Within, good-head, offset-before, offset-until, offset-since, offset-range, good-zone}

@@ -10,8 +10,7 @@ use native.Mathlib.Omega.{arith}
 use borrow.Author.Tests.{le-leb, lt-leb}
 use lib.Dec.{T}
 use lib.ListN.{length, take}
-use Rattle.zone.specs.Limits.{offsetAfter}
-use Rattle.zone.specs.Stretches.{split, boundary, stretchOffset, endIn, stretchFrom, stretchIn, stretchOf, stretchInstant}
+use Rattle.zone.specs.Stretches.{offsetAfter, split, boundary, stretchOffset, endIn, stretchFrom, stretchIn, stretchOf, stretchInstant}
 use Rattle.zone.specs.Zone.{Offsets, instantOf, apart, transitionsGood, zoneGood}
 use Rattle.zone.specs.declared.Transition.{Transition}
 use Rattle.zone.proofs.Good.{by-order, Within, good-head, GoodZone, good-zone}

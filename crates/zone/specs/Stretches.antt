@@ -4,10 +4,15 @@ use mathlib.Core.List.{List, [], _∷_}
 use Prim.Native.Nat.{ℕ, zero, suc, _+_, _-_, min, max}
 use lib.Dec.{leb, ltb}
 use lib.ListN.{take}
-use Rattle.zone.specs.Limits.{offsetAfter}
-use Rattle.zone.specs.Zone.{Offsets, instantOf, inWindow}
+use Rattle.calendar.specs.Window.{windowMinutes}
+use Rattle.zone.specs.Zone.{Offsets, instantOf, inWindow, biases}
 use Rattle.zone.specs.declared.Transition.{Transition}
 use Rattle.zone.specs.declared.stretch.Instant.{Instant}
+
+-- the offset after the transitions
+unfoldable pub offsetAfter : ℕ → List Transition → ℕ
+offsetAfter offset [] = offset
+offsetAfter offset (t ∷ ts) = offsetAfter (t .offset) ts
 
 -- where the stretch before a transition ends, as local minute + 2,880: the gap still belongs to it, and the doubled hour too
 abbrev pub split : ℕ → Transition → ℕ
@@ -15,7 +20,7 @@ split offset t = t .at + max offset (t .offset)
 
 -- the same as a local minute of the window, or the first past it
 unfoldable pub boundary : ℕ → Transition → ℕ
-boundary offset t = min (split offset t - 2880) 52596000
+boundary offset t = min (split offset t - biases) windowMinutes
 
 -- the offset of stretch k
 unfoldable pub stretchOffset : Offsets → ℕ → ℕ
@@ -23,11 +28,11 @@ stretchOffset z k = offsetAfter (z .first) (take k (z .changes))
 
 -- where stretch k of these transitions ends
 unfoldable pub endIn : ℕ → List Transition → ℕ → ℕ
-endIn offset [] k = 52596000
+endIn offset [] k = windowMinutes
 endIn offset (t ∷ ts) zero = boundary offset t
 endIn offset (t ∷ ts) (suc k) = endIn (t .offset) ts k
 
--- the first local minute of stretch k, which is the first past the stretch before it; past the last stretch 52,596,000
+-- the first local minute of stretch k, which is the first past the stretch before it; past the last stretch the first past the window
 unfoldable pub stretchFrom : Offsets → ℕ → ℕ
 stretchFrom z zero = 0
 stretchFrom z (suc k) = endIn (z .first) (z .changes) k
@@ -35,14 +40,14 @@ stretchFrom z (suc k) = endIn (z .first) (z .changes) k
 -- the stretch of a local minute
 unfoldable pub stretchIn : ℕ → List Transition → ℕ → ℕ
 stretchIn offset [] m = 0
-stretchIn offset (t ∷ ts) m = elim (leb (split offset t) (m + 2880)) [ true ↦ suc (stretchIn (t .offset) ts m) | false ↦ 0 ]
+stretchIn offset (t ∷ ts) m = elim (leb (split offset t) (m + biases)) [ true ↦ suc (stretchIn (t .offset) ts m) | false ↦ 0 ]
 
 unfoldable pub stretchOf : Offsets → ℕ → ℕ
 stretchOf z m = stretchIn (z .first) (z .changes) m
 
 -- the instant of a local minute by its stretch
 unfoldable pub stretchInstant : Offsets → ℕ → ℕ
-stretchInstant z m = m + 2880 - stretchOffset z (stretchOf z m)
+stretchInstant z m = m + biases - stretchOffset z (stretchOf z m)
 
 -- the same, or outside the window
 unfoldable pub stretchLocal : Offsets → ℕ → Instant

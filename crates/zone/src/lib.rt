@@ -1,11 +1,18 @@
-// Wall clock and instants. Instants and offsets are moved up by a day, 1,440 minutes.
+// Wall clock and instants.
 ghost use mathlib.Core.Path.{_≡_};
 ghost use Rattle.zone.specs.Zone.{offsetAt};
 ghost use Rattle.zone.specs.Held.{offsetsOf};
+use calendar::num::fewer;
 
 pub mod limits;
-pub mod num;
 pub mod stretch;
+
+// Instants and offsets are moved up by a day.
+pub const BIAS: u64 = calendar::window::DAY;
+// An instant and its offset together.
+pub const BIASES: u64 = 2 * BIAS;
+// A zone has at most so many transitions.
+pub const CHANGES: usize = 32;
 
 // From instant `at` on the offset is `offset`.
 #[repr(C)]
@@ -19,14 +26,14 @@ pub struct Transition {
 pub struct Zone {
     pub first: u64,
     pub count: usize,
-    pub changes: [Transition; 32],
+    pub changes: [Transition; CHANGES],
 }
 
 // The offset at an instant.
 pub fn offset_at(zone: Zone, instant: u64) -> u64
     ensures { λ r. ⌜ r ≡ offsetAt (offsetsOf zone) instant ⌝ }
 {
-    let n = num::lesser(zone.count, 32);
+    let n = fewer(zone.count, CHANGES);
     let mut offset = zone.first;
     let mut k: usize = 0;
     while k < n {

@@ -1,113 +1,51 @@
-// A zone made by adding one transition after another, each held to the limits.
+// What transitions are held to: instants of the window, offsets in range, and the limits of one after another.
 ghost use mathlib.Core.Path.{_≡_};
-ghost use lib.Dec.{leb};
-ghost use Rattle.zone.specs.Held.{offsetsOf};
-ghost use Rattle.zone.specs.Limits.{inRange, lowAfter, limitOf, startOf, addedTo, offsetsAfter};
+ghost use Rattle.zone.specs.Zone.{apart, offsetInRange, inRange, underLimits};
 use crate::Transition;
-use crate::Zone;
-use crate::num;
-use crate::stretch;
+use calendar::num::lies_within;
 
-// Taken, or the first limit that is broken.
-pub enum Limit {
-    Taken,
-    // A 33rd transition.
-    Place,
-    // An instant or an offset out of range.
-    Range,
-    // Less than 2,880 minutes after the transition before.
-    Distance,
-    // An offset that differs from the one before by 0 or by more than 180 minutes.
-    Change,
-}
+// −12:00.
+const LEAST_OFFSET: u64 = 720;
+// +14:00.
+const GREATEST_OFFSET: u64 = 2280;
+// 2000-01-01 00:00 UTC.
+const WINDOW_FIRST: u64 = crate::BIAS;
+// 2099-12-31 23:59 UTC.
+const WINDOW_LAST: u64 = crate::BIAS + calendar::window::LAST_MINUTE;
+// A transition is at least so many minutes after the one before.
+pub const DISTANCE: u64 = 2880;
+// It changes the offset by 1 to so many minutes.
+const MOST_CHANGE: u64 = 180;
 
-// The answer, and the zone as it then is.
-pub struct Added {
-    pub limit: Limit,
-    pub zone: Zone,
-}
-
-// A zone without transitions, and whether its offset is in range.
-pub fn start(offset: u64) -> Added
-    ensures { λ r. ⌜ r ≡ startOf offset ⌝ }
+// How far apart two offsets are.
+fn distance(a: u64, b: u64) -> u64
+    ensures { λ r. ⌜ r ≡ apart a b ⌝ }
 {
-    let zone = Zone {
-        first: offset,
-        count: 0,
-        changes: [Transition { at: 0, offset: 0 }; 32],
-    };
-    if calendar::num::lies_within(720, 2280, offset) {
-        return Added {
-            limit: Limit::Taken,
-            zone,
-        };
-    }
-    Added {
-        limit: Limit::Range,
-        zone,
-    }
+    if a < b { b - a } else { a - b }
+}
+
+pub fn offset_in_range(offset: u64) -> bool
+    ensures { λ r. ⌜ r ≡ offsetInRange offset ⌝ }
+{
+    lies_within(LEAST_OFFSET, GREATEST_OFFSET, offset)
 }
 
 // An instant of the window and an offset in range.
-fn in_range(change: Transition) -> bool
+pub fn in_range(change: Transition) -> bool
     ensures { λ r. ⌜ r ≡ inRange change ⌝ }
 {
-    if calendar::num::lies_within(1440, 52597439, change.at) {
-        return calendar::num::lies_within(720, 2280, change.offset);
+    if lies_within(WINDOW_FIRST, WINDOW_LAST, change.at) {
+        return offset_in_range(change.offset);
     }
     false
 }
 
-// At least 2,880 minutes after the last transition.
-fn late_enough(zone: Zone, at: u64) -> bool
-    ensures { λ r. ⌜ r ≡ leb (lowAfter 0 (offsetsOf zone .changes)) at ⌝ }
+// A transition no earlier than `low` that changes `offset` by what is allowed.
+pub fn under_limits(low: u64, offset: u64, change: Transition) -> bool
+    ensures { λ r. ⌜ r ≡ underLimits low offset change ⌝ }
 {
-    let n = num::lesser(zone.count, 32);
-    if n == 0 {
-        return true;
-    }
-    let last = zone.changes[n - 1];
-    if at < last.at {
+    if change.at < low {
         return false;
     }
-    2880 <= at - last.at
-}
-
-// Taken, or the first limit that `change` breaks after the zone's transitions.
-pub fn limit_of(zone: Zone, change: Transition) -> Limit
-    ensures { λ r. ⌜ r ≡ limitOf (offsetsOf zone) change ⌝ }
-{
-    if 31 < zone.count {
-        return Limit::Place;
-    }
-    if !in_range(change) {
-        return Limit::Range;
-    }
-    if !late_enough(zone, change.at) {
-        return Limit::Distance;
-    }
-    let before = stretch::stretch_offset(zone, 32);
-    if calendar::num::lies_within(1, 180, num::distance(before, change.offset)) {
-        return Limit::Taken;
-    }
-    Limit::Change
-}
-
-// The zone with one transition more, or as it was.
-pub fn add(zone: Zone, change: Transition) -> Added
-    ensures answer { λ r. ⌜ r ≡ addedTo zone change ⌝ }
-    ensures offsets { λ r. ⌜ offsetsOf (r .zone) ≡ offsetsAfter (offsetsOf zone) change ⌝ }
-{
-    let limit = limit_of(zone, change);
-    let Limit::Taken = limit else {
-        return Added { limit, zone };
-    };
-    let at = zone.count;
-    let mut next = zone;
-    next.changes[at] = change;
-    next.count = at + 1;
-    Added {
-        limit: Limit::Taken,
-        zone: next,
-    }
+    lies_within(1, MOST_CHANGE, distance(offset, change.offset))
 }

@@ -8,20 +8,14 @@ use Rattle.good.proofs.frame_good.Tie as tie
 enum-known-frame : tie.Need-enum-known-frame
 enum-known-frame c = search needs
 
-lies-within-requires : tie.Need-lies-within-requires
-lies-within-requires c κs = search needs
+offset-in-range-requires : tie.Need-offset-in-range-requires
+offset-in-range-requires c κs = search needs
 
 enum-known-frame-2 : tie.Need-enum-known-frame-2
 enum-known-frame-2 c = search needs
 
-lies-within-requires-2 : tie.Need-lies-within-requires-2
-lies-within-requires-2 c κs = search needs
-
-lies-within-requires-3 : tie.Need-lies-within-requires-3
-lies-within-requires-3 c κs = search needs
-
-both-requires : tie.Need-both-requires
-both-requires c κs = search needs
+in-range-requires : tie.Need-in-range-requires
+in-range-requires c κs = search needs
 
 enum-known-frame-3 : tie.Need-enum-known-frame-3
 enum-known-frame-3 c = search needs
@@ -46,11 +40,11 @@ enum-told c = search needs
 
 returns : tie.Need-returns
 unfolding frameGood
-returns c = c .lies-within .ensures ∙ ap frameGood (sym (c .before .before .frame .given .1))
+returns c = c .offset-in-range .ensures ∙ ap frameGood (sym (c .before .before .frame .given .1))
 
 returns-2 : tie.Need-returns-2
 unfolding frameGood
-returns-2 c = rw (c .both .ensures, c .before .lies-within3 .ensures, c .before .before .lies-within2 .ensures) (ap frameGood (sym (c .before .before .before .before .frame2 .given .1)))
+returns-2 c = c .in-range .ensures ∙ ap frameGood (sym (c .before .before .frame2 .given .1))
 
 returns-3 : tie.Need-returns-3
 unfolding frameGood
@@ -77,11 +71,9 @@ frame-good-spec =
     tie.close
     (tie.spec
     enum-known-frame
-    lies-within-requires
+    offset-in-range-requires
     enum-known-frame-2
-    lies-within-requires-2
-    lies-within-requires-3
-    both-requires
+    in-range-requires
     enum-known-frame-3
     cron-good-requires
     enum-known-frame-4

@@ -19,12 +19,12 @@ Inv-loop instant zone n offset₀ k₀ offset k =
 abbrev μ-loop : tie.MeasureT-loop
 μ-loop instant zone n offset₀ k₀ offset k = n - k
 
-lesser-requires : tie.Need-lesser-requires Inv-loop μ-loop
-lesser-requires c κs = search needs
+fewer-requires : tie.Need-fewer-requires Inv-loop μ-loop
+fewer-requires c κs = search needs
 
 loop-holds : tie.Need-loop-holds Inv-loop μ-loop
 unfolding offsetAt offsetsOf
-loop-holds c = (omega arith, c .lesser .ensures, refl)
+loop-holds c = (omega arith, c .fewer .ensures, refl)
 
 mul-change : tie.Need-mul-change Inv-loop μ-loop
 mul-change c = search needs
@@ -63,7 +63,7 @@ offset-at-spec =
     (tie.spec
     Inv-loop
     μ-loop
-    lesser-requires
+    fewer-requires
     loop-holds
     mul-change
     element-copy-out-change

@@ -29,11 +29,11 @@ returns c = simp (c .over-whole .ensures, eq-eqb _ _ (c .before .before .if1 .ta
 element-copy-out-if2 : tie.Need-element-copy-out-if2
 element-copy-out-if2 c = search needs
 
-add-over-whole : tie.Need-add-over-whole
-add-over-whole c = search needs
+period-requires : tie.Need-period-requires
+period-requires c κs = search needs
 
-add-over-whole-2 : tie.Need-add-over-whole-2
-add-over-whole-2 c = search needs
+period-requires-2 : tie.Need-period-requires-2
+period-requires-2 c κs = search needs
 
 sub-over-whole-2 : tie.Need-sub-over-whole-2
 sub-over-whole-2 c = search needs
@@ -46,7 +46,15 @@ over-whole-requires-2 c κs = search needs
 
 returns-2 : tie.Need-returns-2
 unfolding dayCounts counts period
-returns-2 c = simp (c .over-whole2 .ensures, ne-eqb _ _ (c .before .before .before .before .if1 .left), eq-eqb _ _ (c .before .before .if2 .taken), local-week)
+returns-2 c =
+    simp (
+      c .over-whole2 .ensures,
+      c .before .before .period2 .ensures,
+      c .before .before .before .period .ensures,
+      ne-eqb _ _ (c .before .before .before .before .before .before .if1 .left),
+      eq-eqb _ _ (c .before .before .before .before .if2 .taken),
+      local-week,
+    )
 
 returns-3 : tie.Need-returns-3
 unfolding dayCounts
@@ -63,8 +71,8 @@ day-counts-spec =
     over-whole-requires
     returns
     element-copy-out-if2
-    add-over-whole
-    add-over-whole-2
+    period-requires
+    period-requires-2
     sub-over-whole-2
     element-copy-out-over-whole-2
     over-whole-requires-2

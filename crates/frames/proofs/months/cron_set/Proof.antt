@@ -23,8 +23,8 @@ first-weekday-requires c κs = search needs
 week-days-requires : tie.Need-week-days-requires
 week-days-requires c κs = rw (c .first-weekday .ensures) (weekday-at-most _)
 
-within-requires : tie.Need-within-requires
-within-requires c κs = let k = c .before .before .before .before .before .before .args .k in
+days-up-to-requires : tie.Need-days-up-to-requires
+days-up-to-requires c κs = let k = c .before .before .before .before .before .before .args .k in
     omega (arith, c .before .before .before .before .before .month-days .ensures, days-at-most k)
 
 returns : tie.Need-returns
@@ -34,7 +34,7 @@ returns c = let s = c .before .before .before .before .before .before .before in
     let len = c .before .before .before .before .before .before .month-days in
     let first = c .before .before .before .before .before .first-weekday .ensures in
     let week = c .before .before .before .before .week-days .ensures in
-    c .within .ensures
+    c .days-up-to .ensures
     ∙ month-same _ (λ n. cronDay (a .f) (dayOf (a .k) n)) (a .k) (len .result) (len .ensures)
     (λ n i.
     let w = week n (i .low) (omega (arith, i .high, days-at-most (a .k))) ∙ ap (λ (x : ℕ). bit (a .f .weekdays) ((x + (n - 1)) % 7)) first in
@@ -42,8 +42,8 @@ returns c = let s = c .before .before .before .before .before .before .before in
     ∙ ap (λ (b : Bool). bit (a .f .days) n || b) w
     ∙ sym (cron-day-at (a .f) (a .k) n i ∙ simp (s .pre .1, both-flags (a .f .flags) (c .before .before .if1 .taken))))
 
-within-requires-2 : tie.Need-within-requires-2
-within-requires-2 c κs = let k = c .before .before .before .before .before .before .args .k in
+days-up-to-requires-2 : tie.Need-days-up-to-requires-2
+days-up-to-requires-2 c κs = let k = c .before .before .before .before .before .before .args .k in
     omega (arith, c .before .before .before .before .before .month-days .ensures, days-at-most k)
 
 returns-2 : tie.Need-returns-2
@@ -53,7 +53,7 @@ returns-2 c = let s = c .before .before .before .before .before .before .before 
     let len = c .before .before .before .before .before .before .month-days in
     let first = c .before .before .before .before .before .first-weekday .ensures in
     let week = c .before .before .before .before .week-days .ensures in
-    c .within2 .ensures
+    c .days-up-to2 .ensures
     ∙ month-same _ (λ n. cronDay (a .f) (dayOf (a .k) n)) (a .k) (len .result) (len .ensures)
     (λ n i.
     let w = week n (i .low) (omega (arith, i .high, days-at-most (a .k))) ∙ ap (λ (x : ℕ). bit (a .f .weekdays) ((x + (n - 1)) % 7)) first in
@@ -68,7 +68,7 @@ cron-set-spec =
     month-days-requires
     first-weekday-requires
     week-days-requires
-    within-requires
+    days-up-to-requires
     returns
-    within-requires-2
+    days-up-to-requires-2
     returns-2)

@@ -28,14 +28,14 @@ weekdays-allowed-requires c κs = let k = c .before .before .before .args .k in
     let e = c .before .before .month-days .ensures in
     (rw (c .first-weekday .ensures) (weekday-at-most _), omega (arith, e, r .0), omega (arith, e, r .1))
 
-within-requires : tie.Need-within-requires
-within-requires c κs = omega (arith, c .before .before .before .month-days .ensures, days-at-most (c .before .before .before .before .args .k))
+days-up-to-requires : tie.Need-days-up-to-requires
+days-up-to-requires c κs = omega (arith, c .before .before .before .month-days .ensures, days-at-most (c .before .before .before .before .args .k))
 
 returns : tie.Need-returns
 returns c = let a = c .before .before .before .before .before .args in
     let len = c .before .before .before .before .month-days in
     let w = c .before .before .first-weekday .ensures in
-    c .within .ensures
+    c .days-up-to .ensures
     ∙ month-same _ (λ n. inSet (a .f) (dayOf (a .k) n)) (a .k) (len .result) (len .ensures)
     (λ n i.
     let h : n ≤ len .result = omega (arith, i .high, len .ensures) in
@@ -51,5 +51,5 @@ day-set-spec =
     days-allowed-requires
     first-weekday-requires
     weekdays-allowed-requires
-    within-requires
+    days-up-to-requires
     returns)

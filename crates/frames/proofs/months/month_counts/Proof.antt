@@ -14,8 +14,8 @@ returns-2 : tie.Need-returns-2
 unfolding monthCounts
 returns-2 c = simp (eq-eqb _ _ (c .if2 .taken), or-true)
 
-less-requires : tie.Need-less-requires
-less-requires c κs = search needs
+minus-requires : tie.Need-minus-requires
+minus-requires c κs = search needs
 
 over-whole-requires : tie.Need-over-whole-requires
 over-whole-requires c κs = search needs
@@ -24,8 +24,8 @@ returns-3 : tie.Need-returns-3
 unfolding monthCounts
 returns-3 c = let p = ne-eqb _ _ (c .before .before .before .before .if1 .left) in
     let q = ne-eqb _ _ (c .before .before .if2 .left) in
-    simp (c .over-whole .ensures, c .before .less .ensures, p, q)
+    simp (c .over-whole .ensures, c .before .minus .ensures, p, q)
 
 pub month-counts-spec : {M : Type 1} → statement M
 month-counts-spec =
-    tie.close (tie.spec returns returns-2 less-requires over-whole-requires returns-3)
+    tie.close (tie.spec returns returns-2 minus-requires over-whole-requires returns-3)

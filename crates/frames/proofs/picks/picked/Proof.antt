@@ -9,7 +9,7 @@ use Rattle.masks.proofs.Counts.{bits-below-one}
 use Rattle.masks.proofs.MaskFroms.{mask-from-same}
 use Rattle.masks.specs.Masks.{bit, maskFrom, bitsBelow}
 use Rattle.frames.proofs.MonthSets.{built-none, built-next, built-without, built-whole}
-use Rattle.frames.proofs.Places.{few-passed, passed-on, passed-by, few-days, place-wanted, in-set, not-in-set}
+use Rattle.frames.proofs.Positions.{few-passed, passed-on, passed-by, few-days, place-wanted, in-set, not-in-set}
 use Rattle.frames.proofs.picks.picked.Statement.{statement}
 use Rattle.frames.proofs.picks.picked.Tie as tie
 

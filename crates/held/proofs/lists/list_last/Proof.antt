@@ -17,8 +17,8 @@ returns c =
     rw (← c .before .lesser .ensures)
     (last-empty (listHeld (firstOf (a .count) (now (a .fs)))) (a .low) (c .before .lesser .result) (c .if1 .taken))
 
-rows-requires : tie.Need-rows-requires
-rows-requires c κs = search needs
+fewer-requires : tie.Need-fewer-requires
+fewer-requires c κs = search needs
 
 last-held-requires : tie.Need-last-held-requires
 last-held-requires c κs = search needs
@@ -28,8 +28,8 @@ unfolding listLast
 returns-2 c =
     let a = c .before .before .before .before .args in
     rw (← c .before .before .before .lesser .ensures)
-    (last-is (listHeld (firstOf (a .count) (now (a .fs)))) (a .low) (c .before .before .before .lesser .result) _ (omega arith) (rw (c .before .rows .ensures) at (c .last-held .ensures)))
+    (last-is (listHeld (firstOf (a .count) (now (a .fs)))) (a .low) (c .before .before .before .lesser .result) _ (omega arith) (rw (c .before .fewer .ensures) at (c .last-held .ensures)))
 
 pub list-last-spec : {M : Type 1} → statement M
 list-last-spec =
-    tie.close (tie.spec lesser-requires returns rows-requires last-held-requires returns-2)
+    tie.close (tie.spec lesser-requires returns fewer-requires last-held-requires returns-2)

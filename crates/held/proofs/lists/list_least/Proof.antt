@@ -17,8 +17,8 @@ returns c =
     rw (← c .before .lesser .ensures)
     (least-empty (listHeld (firstOf (a .count) (now (a .fs)))) (a .low) (c .before .lesser .result) (c .if1 .taken))
 
-rows-requires : tie.Need-rows-requires
-rows-requires c κs = search needs
+fewer-requires : tie.Need-fewer-requires
+fewer-requires c κs = search needs
 
 least-held-requires : tie.Need-least-held-requires
 least-held-requires c κs = search needs
@@ -28,8 +28,8 @@ unfolding listLeast
 returns-2 c =
     let a = c .before .before .before .before .args in
     rw (← c .before .before .before .lesser .ensures)
-    (least-is (listHeld (firstOf (a .count) (now (a .fs)))) (a .low) (c .before .before .before .lesser .result) _ (omega arith) (rw (c .before .rows .ensures) at (c .least-held .ensures)))
+    (least-is (listHeld (firstOf (a .count) (now (a .fs)))) (a .low) (c .before .before .before .lesser .result) _ (omega arith) (rw (c .before .fewer .ensures) at (c .least-held .ensures)))
 
 pub list-least-spec : {M : Type 1} → statement M
 list-least-spec =
-    tie.close (tie.spec lesser-requires returns rows-requires least-held-requires returns-2)
+    tie.close (tie.spec lesser-requires returns fewer-requires least-held-requires returns-2)

@@ -13,8 +13,8 @@ Inv-loop rows count n zone₀ i₀ zone i = Rest rows count n zone i
 abbrev μ-loop : tie.MeasureT-loop
 μ-loop rows count n zone₀ i₀ zone i = n - i
 
-looked-at-requires : tie.Need-looked-at-requires Inv-loop μ-loop
-looked-at-requires c κs = search needs
+fewer-requires : tie.Need-fewer-requires Inv-loop μ-loop
+fewer-requires c κs = search needs
 
 index-1-t11 : tie.Need-index-1-t11 Inv-loop μ-loop
 index-1-t11 c = search needs
@@ -24,7 +24,7 @@ index-2-t11 c = search needs
 
 loop-holds : tie.Need-loop-holds Inv-loop μ-loop
 loop-holds c = let a = c .before .before .args in
-    rest-first (now (a .rows)) (a .count) _ (c .before .looked-at .ensures)
+    rest-first (now (a .rows)) (a .count) _ (c .before .fewer .ensures)
 
 mul-if1 : tie.Need-mul-if1 Inv-loop μ-loop
 mul-if1 c = search needs
@@ -89,7 +89,7 @@ zone-of-spec =
     (tie.spec
     Inv-loop
     μ-loop
-    looked-at-requires
+    fewer-requires
     index-1-t11
     index-2-t11
     loop-holds

@@ -30,14 +30,14 @@ stretch c =
     let t = c .before .before .before in
     let s = t .before .before .before in
     let v = t .loop in
-    let l = from-there (s .args .t3) (s .good .1 .1 .0) (v .k) (v .k + 1) (v .offset) refl (omega (arith, t .before .places .ensures)) (v .inv .2) in
+    let l = from-there (s .args .t3) (s .good .1 .1 .0) (v .k) (v .k + 1) (v .offset) refl (omega (arith, t .before .fewer .ensures)) (v .inv .2) in
     record { by = v .inv .2; first = v .inv .1; past = c .end-before .ensures ∙ l }
 
 lesser-requires : tie.Need-lesser-requires Inv-loop μ-loop
 lesser-requires c κs = search needs
 
-places-requires : tie.Need-places-requires Inv-loop μ-loop
-places-requires c κs = search needs
+fewer-requires : tie.Need-fewer-requires Inv-loop μ-loop
+fewer-requires c κs = search needs
 
 loop-holds : tie.Need-loop-holds Inv-loop μ-loop
 loop-holds c =
@@ -85,7 +85,7 @@ loop-again c =
     let v = t .loop in (
       omega arith,
       omega (arith, stretch e .past),
-      omega (arith, offset-from (s .args .t3) (s .good .1 .1 .0) (v .k) (v .k + 1) refl (omega (arith, t .before .places .ensures))),
+      omega (arith, offset-from (s .args .t3) (s .good .1 .1 .0) (v .k) (v .k + 1) refl (omega (arith, t .before .fewer .ensures))),
       stretch-after _ z (s .pre) (v .k) _ _ _ (stretch e) Before before-through (λ j. t .before .before .lesser .result < j) _ _ _ (c .stretch-next .ensures) 0 (omega arith) (v .inv .3),
     )
 
@@ -107,7 +107,7 @@ returns c =
     let s = t .before .before .before in
     let z = offsetsOf (s .args .t3) in
     let v = t .loop in
-    let l = last-end (s .args .t3) (s .good .1 .1 .0) (v .k) (omega (arith, t .before .places .ensures)) in
+    let l = last-end (s .args .t3) (s .good .1 .1 .0) (v .k) (omega (arith, t .before .fewer .ensures)) in
     next-whole _ z (s .pre) (s .args .asked) (t .before .before .lesser .result) _ (omega (arith, t .before .before .lesser .ensures))
     (stretch-after _ z (s .pre) (v .k) _ _ _ (record { by = v .inv .2; first = v .inv .1; past = l }) Before before-through (λ j. t .before .before .lesser .result < j) _ _ _ (c .stretch-next2 .ensures) 0 (omega arith) (v .inv .3))
 
@@ -118,7 +118,7 @@ next-instant-spec =
     Inv-loop
     μ-loop
     lesser-requires
-    places-requires
+    fewer-requires
     loop-holds
     mul-change
     element-copy-out-change

@@ -56,15 +56,15 @@ stretch c =
 lesser-requires : tie.Need-lesser-requires Inv-loop μ-loop
 lesser-requires c κs = search needs
 
-places-requires : tie.Need-places-requires Inv-loop μ-loop
-places-requires c κs = search needs
+fewer-requires : tie.Need-fewer-requires Inv-loop μ-loop
+fewer-requires c κs = search needs
 
 loop-holds : tie.Need-loop-holds Inv-loop μ-loop
 loop-holds c =
     let s = c .before .before in
     let w = s .args .t3 in (
-      omega (arith, c .places .ensures),
-      last-end w (s .good .1 .1 .0) (c .places .result) (omega (arith, c .places .ensures)),
+      omega (arith, c .fewer .ensures),
+      last-end w (s .good .1 .1 .0) (c .fewer .result) (omega (arith, c .fewer .ensures)),
       nearest-start _ _ _ (λ j h l. no-minutes _ (offsetsOf w) 52596000 j (h .0)),
     )
 
@@ -151,7 +151,7 @@ previous-instant-spec =
     Inv-loop
     μ-loop
     lesser-requires
-    places-requires
+    fewer-requires
     loop-holds
     sub-change
     mul-change

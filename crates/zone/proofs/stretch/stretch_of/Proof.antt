@@ -18,12 +18,12 @@ Inv-loop m zone n before₀ k₀ before k =
 abbrev μ-loop : tie.MeasureT-loop
 μ-loop m zone n before₀ k₀ before k = n - k
 
-lesser-requires : tie.Need-lesser-requires Inv-loop μ-loop
-lesser-requires c κs = search needs
+fewer-requires : tie.Need-fewer-requires Inv-loop μ-loop
+fewer-requires c κs = search needs
 
 loop-holds : tie.Need-loop-holds Inv-loop μ-loop
 unfolding stretchOf offsetsOf
-loop-holds c = (omega arith, c .lesser .ensures, omega arith)
+loop-holds c = (omega arith, c .fewer .ensures, omega arith)
 
 mul-change : tie.Need-mul-change Inv-loop μ-loop
 mul-change c = search needs
@@ -78,7 +78,7 @@ stretch-of-spec =
     (tie.spec
     Inv-loop
     μ-loop
-    lesser-requires
+    fewer-requires
     loop-holds
     mul-change
     element-copy-out-change

@@ -1,0 +1,20 @@
+// The kinds of frames, and a rule's frequencies.
+pub const OFFSET: u64 = 1;
+
+pub const CHANGE: u64 = 2;
+
+pub const CRON: u64 = 3;
+
+pub const RULE: u64 = 4;
+
+pub const EXTRA: u64 = 5;
+
+pub const EXCEPTED: u64 = 6;
+
+pub const END: u64 = 255;
+
+pub const DAILY: u64 = 1;
+
+pub const WEEKLY: u64 = 2;
+
+pub const MONTHLY: u64 = 3;
