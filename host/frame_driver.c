@@ -4,7 +4,11 @@
      falling FROM COUNT LINE ..    the first COUNT held local minutes from FROM down, falling
      nth COUNT LINE                the local day of the COUNT-th occurrence of a rule, `-` where there are fewer
 
-   LINE is a plan's line of kind 03 to 06, in hex. */
+   LINE is a plan's line of kind 03 to 06, in hex. The frames are lent between pages that may not be touched (lent.h): where a call goes
+   astray the exit status is 3. */
+#define LENT_DRIVER "frame_driver"
+#include "lent.h"
+
 #include <inttypes.h>
 #include <stdio.h>
 #include <stdlib.h>
@@ -85,7 +89,33 @@ static size_t read_frames(frame *frames) {
     return count;
 }
 
-/* Answers one line: 1, or 0 for a bad request. */
+/* Asked with the rule at either side of a page that may not be touched. */
+static void nth(const frame *rule, uint64_t count) {
+    uint64_t first_day = (*rule)[3] / 1440;
+    lent after = lend(rule, sizeof *rule, LENT_AFTER);
+    lent before = lend(rule, sizeof *rule, LENT_BEFORE);
+    uint64_t day = probe_nth_day(after.bytes, count, first_day);
+    if (probe_nth_day(before.bytes, count, first_day) != day) {
+        fputs("frame_driver: the answer depends on where the rule lies\n", stderr);
+        exit(3);
+    }
+    give_back(after);
+    give_back(before);
+    if (day < DAYS) {
+        printf("%" PRIu64, day);
+    } else {
+        putchar('-');
+    }
+}
+
+/* The 64 frames fill two pages of 4,096 bytes, so that both their neighbours are pages that may not be touched. */
+static void in_turn(const frame *frames, size_t count, uint64_t from, uint64_t asked, int up) {
+    lent all = lend(frames, FRAMES * sizeof(frame), LENT_BEFORE);
+    (up ? rising : falling)(all.bytes, count, from, asked);
+    give_back(all);
+}
+
+/* Answers one line, without its LF: 1, or 0 for a bad request. */
 static int answer(char *line) {
     static frame frames[FRAMES];
     char *name = strtok(line, " \n");
@@ -98,12 +128,7 @@ static int answer(char *line) {
         if (read_frames(frames) != 1) {
             return 0;
         }
-        uint64_t day = probe_nth_day(frames[0], from, frames[0][3] / 1440);
-        if (day < DAYS) {
-            printf("%" PRIu64 "\n", day);
-        } else {
-            puts("-");
-        }
+        nth((const frame *)frames, from);
         return 1;
     }
     char *second = strtok(NULL, " \n");
@@ -116,19 +141,20 @@ static int answer(char *line) {
     if (count > FRAMES) {
         return 0;
     }
-    (up ? rising : falling)((const frame *)frames, count, from, asked);
-    putchar('\n');
+    in_turn((const frame *)frames, count, from, asked, up);
     return 1;
 }
 
 int main(void) {
     static char line[LINE_ROOM];
     int status = 0;
+    lent_start();
     while (fgets(line, sizeof line, stdin) != NULL) {
         if (!answer(line)) {
-            puts("bad request");
+            fputs("bad request", stdout);
             status = 1;
         }
+        putchar('\n');
     }
-    return fflush(stdout) == 0 ? status : 2;
+    return ferror(stdin) || fflush(stdout) != 0 || ferror(stdout) ? 2 : status;
 }

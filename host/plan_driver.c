@@ -7,8 +7,11 @@
 
    PLAN is the plan's bytes in hex, two digits a byte, `-` for none: a plan that is not taken may hold any bytes, and any number of them.
    Other numbers are signed 64-bit decimals. A line of another form is answered by `bad request`, and the exit status is then 1; 2 means
-   that reading, writing or memory failed. */
-#define _POSIX_C_SOURCE 200809L
+   that reading, writing or memory failed. Each call is made twice, with the plan at either side of a page that may not be touched
+   (lent.h); the exit status is 3 where the two answers differ or a call goes astray. */
+#define LENT_DRIVER "plan_driver"
+#include "lent.h"
+
 #include <errno.h>
 #include <inttypes.h>
 #include <stdio.h>
@@ -19,7 +22,7 @@
 
 typedef evk_found search(const uint8_t *plan, size_t plan_length, int64_t asked);
 
-typedef struct { uint8_t *bytes; size_t length; } plan;
+typedef struct { lent after, before; size_t length; } plan;
 
 static void fail(void) {
     perror("plan_driver");
@@ -30,30 +33,38 @@ static int digit(char c) {
     return '0' <= c && c <= '9' ? c - '0' : 'A' <= c && c <= 'F' ? c - 'A' + 10 : -1;
 }
 
-/* Reads a plan: 1, or 0 where the word is none. Its bytes fill their memory exactly, so that a checker of memory sees a read past them. */
-static int read_plan(const char *word, plan *made) {
+/* Reads a plan: 1, or 0 where the word is none. The word's own memory takes its bytes, before they are lent. */
+static int read_plan(char *word, plan *made) {
     size_t digits = strcmp(word, "-") == 0 ? 0 : strlen(word);
     if (digits % 2 != 0) {
         return 0;
     }
     made->length = digits / 2;
-    made->bytes = NULL;
-    if (made->length == 0) {
-        return 1;
-    }
-    made->bytes = malloc(made->length);
-    if (made->bytes == NULL) {
-        fail();
-    }
     for (size_t i = 0; i < made->length; i++) {
         int high = digit(word[2 * i]), low = digit(word[2 * i + 1]);
         if (high < 0 || low < 0) {
-            free(made->bytes);
             return 0;
         }
-        made->bytes[i] = (uint8_t)(16 * high + low);
+        word[i] = (char)(16 * high + low);
     }
+    made->after = lend(word, made->length, LENT_AFTER);
+    made->before = lend(word, made->length, LENT_BEFORE);
     return 1;
+}
+
+/* Ends the driver where two calls with the same numbers answer otherwise. */
+static void need_same(int same) {
+    if (!same) {
+        fputs("plan_driver: the answer depends on where the plan lies\n", stderr);
+        exit(3);
+    }
+}
+
+static evk_found found(plan p, search *one, int64_t asked) {
+    evk_found r = one(p.after.bytes, p.length, asked);
+    evk_found s = one(p.before.bytes, p.length, asked);
+    need_same(r.number == s.number && r.line == s.line && r.instant == s.instant);
+    return r;
 }
 
 /* Reads the next number of the line: 1, 0 at the line's end, or -1 where another word stands. */
@@ -77,7 +88,9 @@ static int check(plan p) {
     if (strtok(NULL, " ") != NULL) {
         return 0;
     }
-    evk_checked r = evk_check(p.bytes, p.length);
+    evk_checked r = evk_check(p.after.bytes, p.length);
+    evk_checked s = evk_check(p.before.bytes, p.length);
+    need_same(r.number == s.number && r.line == s.line);
     printf("%" PRIu64 " %" PRIu64, r.number, r.line);
     return 1;
 }
@@ -87,10 +100,10 @@ static int in_turn(plan p, search *one) {
     if (read_number(&asked) != 1 || read_number(&count) != 1 || count < 1 || strtok(NULL, " ") != NULL) {
         return 0;
     }
-    evk_found r = one(p.bytes, p.length, asked);
+    evk_found r = found(p, one, asked);
     show("", r);
     for (int64_t k = 1; k < count && r.number == EVK_TAKEN; k++) {
-        r = one(p.bytes, p.length, r.instant);
+        r = found(p, one, r.instant);
         show(",", r);
     }
     return 1;
@@ -109,7 +122,7 @@ static int local(plan p) {
     const char *before = "";
     int got;
     while ((got = read_number(&minute)) == 1) {
-        show(before, evk_instant_of_local(p.bytes, p.length, minute));
+        show(before, found(p, evk_instant_of_local, minute));
         before = ",";
     }
     return got == 0 && *before != 0;
@@ -133,7 +146,8 @@ static int answer(char *line) {
         plan p;
         if (strcmp(name, requests[i].name) == 0 && read_plan(hex, &p)) {
             int good = requests[i].answer(p);
-            free(p.bytes);
+            give_back(p.after);
+            give_back(p.before);
             return good;
         }
     }
@@ -145,6 +159,7 @@ int main(void) {
     size_t room = 0;
     ssize_t length;
     int status = 0;
+    lent_start();
     while ((length = getline(&line, &room, stdin)) > 0) {
         line[length - (line[length - 1] == '\n')] = 0;
         if (!answer(line)) {

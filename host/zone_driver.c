@@ -3,54 +3,43 @@
      locals FIRST N AT OFFSET .. FROM COUNT     the instants of COUNT local minutes from FROM on, `-` for one outside the window
      offsets FIRST N AT OFFSET .. FROM COUNT    the offsets at COUNT instants from FROM on
 
-   FIRST is the offset before the N transitions, all in minutes, instants not below -1440. The answer is `0 0` and the numbers, or, of a
-   zone that is not taken, the refusal and the number of the transition that breaks a limit, 0 for FIRST. */
+   FIRST is the offset before the N transitions, at most 32, all in minutes, instants not below -1440. The zone is one that is taken: the
+   limits are compared in the load check, by plan_driver. It goes by value: nothing is lent. */
 #include <inttypes.h>
 #include <stdio.h>
 #include <stdlib.h>
 #include <string.h>
 
 /* Inside, instants and offsets are moved up by a day. */
-enum { DAY = 1440, MOST_NUMBERS = 128, LINE_ROOM = 4096 };
+enum { DAY = 1440, MOST_CHANGES = 32, MOST_NUMBERS = 128, LINE_ROOM = 4096 };
 
 typedef struct { uint64_t at, offset; } transition;
-typedef struct { uint64_t first; size_t count; transition changes[32]; } zone;
-typedef struct { uint64_t number; zone zone; } probe_zone;
+typedef struct { uint64_t first; size_t count; transition changes[MOST_CHANGES]; } zone;
 typedef struct { uint64_t number, instant; } probe_instant;
 
-probe_zone probe_start(uint64_t offset);
-probe_zone probe_add(zone zone, uint64_t at, uint64_t offset);
 uint64_t probe_offset_at(zone zone, uint64_t instant);
 probe_instant probe_instant_of_local(zone zone, uint64_t minute);
 
-/* Builds the zone; answers the refusal and its place, or 0. */
-static int read_zone(const int64_t *a, int64_t n, zone *made) {
-    probe_zone z = probe_start((uint64_t)(a[0] + DAY));
-    int64_t k = 0;
-    while (z.number == 0 && k < n) {
-        z = probe_add(z.zone, (uint64_t)(a[2 + 2 * k] + DAY), (uint64_t)(a[3 + 2 * k] + DAY));
-        k++;
+static zone read_zone(const int64_t *a, int64_t n) {
+    zone z = {(uint64_t)(a[0] + DAY), (size_t)n, {{0, 0}}};
+    for (int64_t k = 0; k < n; k++) {
+        z.changes[k].at = (uint64_t)(a[2 + 2 * k] + DAY);
+        z.changes[k].offset = (uint64_t)(a[3 + 2 * k] + DAY);
     }
-    printf("%" PRIu64 " %" PRId64, z.number, z.number == 0 ? 0 : k);
-    *made = z.zone;
-    return z.number == 0;
+    return z;
 }
 
-static void locals(zone z, int64_t from, int64_t count) {
-    for (int64_t m = from; m < from + count; m++) {
-        probe_instant r = probe_instant_of_local(z, (uint64_t)m);
-        if (r.number == 0) {
-            printf(" %" PRId64, (int64_t)r.instant - DAY);
-        } else {
-            printf(" -");
-        }
+static void local(zone z, int64_t m) {
+    probe_instant r = probe_instant_of_local(z, (uint64_t)m);
+    if (r.number == 0) {
+        printf("%" PRId64, (int64_t)r.instant - DAY);
+    } else {
+        putchar('-');
     }
 }
 
-static void offsets(zone z, int64_t from, int64_t count) {
-    for (int64_t i = from; i < from + count; i++) {
-        printf(" %" PRId64, (int64_t)probe_offset_at(z, (uint64_t)(i + DAY)) - DAY);
-    }
+static void offset(zone z, int64_t i) {
+    printf("%" PRId64, (int64_t)probe_offset_at(z, (uint64_t)(i + DAY)) - DAY);
 }
 
 /* Answers one line: 1, or 0 for a bad request. */
@@ -68,12 +57,16 @@ static int answer(char *line) {
     if (!by_local && (name == NULL || strcmp(name, "offsets") != 0)) {
         return 0;
     }
-    if (given < 4 || given != 2 * a[1] + 4) {
+    if (given < 4 || a[1] < 0 || MOST_CHANGES < a[1] || given != 2 * a[1] + 4) {
         return 0;
     }
-    zone z;
-    if (read_zone(a, a[1], &z)) {
-        (by_local ? locals : offsets)(z, a[given - 2], a[given - 1]);
+    zone z = read_zone(a, a[1]);
+    int64_t from = a[given - 2], end = from + a[given - 1];
+    for (int64_t n = from; n < end; n++) {
+        if (from < n) {
+            putchar(' ');
+        }
+        (by_local ? local : offset)(z, n);
     }
     putchar('\n');
     return 1;
@@ -88,5 +81,5 @@ int main(void) {
             status = 1;
         }
     }
-    return fflush(stdout) == 0 ? status : 2;
+    return ferror(stdin) || fflush(stdout) != 0 || ferror(stdout) ? 2 : status;
 }

@@ -16,9 +16,6 @@ thread_local! {
 pub fn answer(request: &str) -> Option<String> {
     let mut words = request.split(' ');
     let name = words.next()?;
-    if !["check", "next", "previous", "local"].contains(&name) {
-        return None;
-    }
     let plan = loaded(words.next()?);
     let numbers: Option<Vec<i64>> = words.map(|word| word.parse().ok()).collect();
     match (name, numbers?.as_slice()) {
@@ -37,12 +34,15 @@ pub fn answer(request: &str) -> Option<String> {
 }
 
 fn loaded(word: &str) -> Rc<Loaded> {
-    LAST.with_borrow_mut(|last| match last {
-        Some((asked, plan)) if asked == word => Rc::clone(plan),
-        _ => {
-            let plan = Rc::new(Loaded::new(&bytes_of(word)));
-            *last = Some((word.to_string(), Rc::clone(&plan)));
-            plan
+    LAST.with(|last| {
+        let mut last = last.borrow_mut();
+        match &*last {
+            Some((asked, plan)) if asked == word => Rc::clone(plan),
+            _ => {
+                let plan = Rc::new(Loaded::new(&bytes_of(word)));
+                *last = Some((word.to_string(), Rc::clone(&plan)));
+                plan
+            }
         }
     })
 }

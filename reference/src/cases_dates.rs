@@ -1,7 +1,7 @@
-//! The suite `dates`: requests about dates, days and ISO dates.
+//! The suite `dates`: requests about dates, days and ISO dates, every day of the range among them.
 
 use crate::dates::{
-    date_of_day, day_of_date, iso_of_day, month_length, FIRST_DAY, FIRST_YEAR, LAST_DAY, LAST_YEAR,
+    date_of_day, iso_of_day, month_length, FIRST_DAY, FIRST_YEAR, LAST_DAY, LAST_YEAR,
 };
 use crate::random::Random;
 
@@ -25,12 +25,12 @@ const VALID: [(&str, &[i64]); 4] = [
 
 pub fn requests(seed: u64, times: u64) -> Requests {
     let fixed: [Requests; 6] = [
-        Box::new(ends_of_months()),
-        Box::new(days_of_our_time()),
-        Box::new(ends_of_the_range()),
+        Box::new(dates_that_months_lack()),
+        Box::new(beyond_the_range()),
         Box::new(wrong_months_and_days()),
         Box::new(ends_of_iso_years()),
         Box::new(extremes()),
+        Box::new(every_day()),
     ];
     let mut random = Random::new(seed);
     let rounds = (0..times.saturating_mul(ROUNDS)).flat_map(move |_| random_round(&mut random));
@@ -44,47 +44,37 @@ fn request(name: &str, numbers: &[i64]) -> String {
 
 /// The four requests about one day: both directions, for its date and its ISO date.
 fn about(day: i64) -> Vec<String> {
-    let mut all = vec![
-        request("date_of_day", &[day]),
-        request("iso_of_day", &[day]),
-    ];
+    let mut all = vec![format!("date_of_day {day}"), format!("iso_of_day {day}")];
     if let Some(date) = date_of_day(day) {
-        all.push(request("day_of_date", &[date.year, date.month, date.day]));
+        let (year, month, day) = (date.year, date.month, date.day);
+        all.push(format!("day_of_date {year} {month} {day}"));
     }
     if let Some(iso) = iso_of_day(day) {
-        all.push(request("day_of_iso", &[iso.year, iso.week, iso.weekday]));
+        let (year, week, weekday) = (iso.year, iso.week, iso.weekday);
+        all.push(format!("day_of_iso {year} {week} {weekday}"));
     }
     all
 }
 
-/// The first and the last day of every month, and the dates just beside them that its month lacks.
-fn ends_of_months() -> impl Iterator<Item = String> {
+fn every_day() -> impl Iterator<Item = String> {
+    (FIRST_DAY..=LAST_DAY).flat_map(about)
+}
+
+/// The dates just beside the first and the last day of every month.
+fn dates_that_months_lack() -> impl Iterator<Item = String> {
     let months = (FIRST_YEAR..=LAST_YEAR).flat_map(|year| (1..=12).map(move |month| (year, month)));
     months.flat_map(|(year, month)| {
-        let length = month_length(year, month);
-        let mut all: Vec<String> = [1, length]
+        [0, month_length(year, month) + 1]
             .into_iter()
-            .filter_map(|day| day_of_date(year, month, day))
-            .flat_map(about)
-            .collect();
-        all.push(request("day_of_date", &[year, month, 0]));
-        all.push(request("day_of_date", &[year, month, length + 1]));
-        all
+            .map(move |day| request("day_of_date", &[year, month, day]))
     })
 }
 
-/// Every day of 1995 to 2105.
-fn days_of_our_time() -> impl Iterator<Item = String> {
-    let first = day_of_date(1995, 1, 1);
-    let last = day_of_date(2105, 12, 31);
-    let days = first.zip(last).map(|(first, last)| first..=last);
-    days.into_iter().flatten().flat_map(about)
-}
-
-/// The days at both ends of the range, and those beyond.
-fn ends_of_the_range() -> impl Iterator<Item = String> {
-    let around = |end: i64| end - 800..=end + 800;
-    around(FIRST_DAY).chain(around(LAST_DAY)).flat_map(about)
+/// The days before and after the range.
+fn beyond_the_range() -> impl Iterator<Item = String> {
+    let before = FIRST_DAY - 800..FIRST_DAY;
+    let after = LAST_DAY + 1..=LAST_DAY + 800;
+    before.chain(after).flat_map(about)
 }
 
 /// Months -1 to 14 and days -1 to 33, of years of every kind.

@@ -1,8 +1,8 @@
 //! The suite `frames`: the local minutes that the cron, rule, extra and excepted frames of generated sheets hold.
 
 use crate::entries::compile;
-use crate::generate::{cron_line, rule_line, sheet};
-use crate::local::LAST_MINUTE;
+use crate::generate::{all_positions, cron_line, large_set_rule_line, rule_line, sheet};
+use crate::local::{written, LAST_MINUTE, MINUTES_OF_A_DAY};
 use crate::random::Random;
 
 /// Rounds for `--times 1`: a rule and a cron line over the whole century, and a sheet from two places.
@@ -12,14 +12,99 @@ const ROUNDS: u64 = 300;
 const MANY: i64 = 36_525;
 const SOME: i64 = 300;
 
+/// "COUNT= 1 to 9999".
+const MOST_COUNT: i64 = 9_999;
+
+/// Lines that hold a minute at an end of the window, or would if it were not excepted or past *last*.
+const AT_THE_ENDS: [&str; 20] = [
+    "D 20000101T0000\nD 20991231T2359",
+    "D 20000101T0001\nD 20991231T2358",
+    "D 20000101T0000\nD 20991231T2359\nX 20000101T0000\nX 20991231T2359",
+    "C * * * * *",
+    "C * * * * *\nX 20000101T0000\nX 20991231T2359",
+    "C 0 0 1 1 *",
+    "C 59 23 31 12 *",
+    "C 0,59 0,23 * * 4,6",
+    "R 20000101T0000 FREQ=DAILY",
+    "R 20000101T2359 FREQ=DAILY",
+    "R 20000101T0000 FREQ=DAILY;UNTIL=20000101T0000",
+    "R 20000101T2359 FREQ=DAILY;UNTIL=20991231T2358",
+    "R 20000101T0000 FREQ=WEEKLY;BYDAY=SA,TH",
+    "R 20000101T2359 FREQ=WEEKLY;BYDAY=SA,TH",
+    "R 20000101T0000 FREQ=MONTHLY;BYMONTHDAY=1,-1",
+    "R 20000131T2359 FREQ=MONTHLY",
+    "R 20991231T2359 FREQ=DAILY",
+    "R 20991231T2359 FREQ=WEEKLY;INTERVAL=999",
+    "R 20991231T2359 FREQ=MONTHLY;BYDAY=-1TH",
+    "R 20991231T0000 FREQ=MONTHLY;BYDAY=TH;BYSETPOS=5",
+];
+
+/// Parts of rules that hold every day, and most days.
+const MANY_DAYS: [&str; 5] = [
+    "FREQ=DAILY",
+    "FREQ=WEEKLY;BYDAY=SU,MO,TU,WE,TH,FR,SA",
+    "FREQ=MONTHLY;BYDAY=SU,MO,TU,WE,TH,FR,SA",
+    "FREQ=MONTHLY;BYMONTHDAY=-1,-2,-3,-4,-5,-6,-7,-8,-9,-10,-11,-12",
+    "FREQ=DAILY;BYDAY=TH,SA,SU,MO",
+];
+
 pub fn requests(seed: u64, times: u64) -> Box<dyn Iterator<Item = String>> {
+    let mut fixed: Vec<String> = AT_THE_ENDS.into_iter().flat_map(at_the_ends).collect();
+    fixed.extend(all_positions().iter().flat_map(|line| whole(line)));
+    fixed.extend(MANY_DAYS.into_iter().flat_map(counts));
     let mut random = Random::new(seed);
     let rounds = times.saturating_mul(ROUNDS);
-    Box::new((0..rounds).flat_map(move |_| round(&mut random)))
+    let rounds = (0..rounds).flat_map(move |_| round(&mut random));
+    Box::new(fixed.into_iter().chain(rounds))
+}
+
+/// From the first minutes and days of the window and from the last ones, up and down.
+fn at_the_ends(lines: &str) -> Vec<String> {
+    let frames = frames_of(&format!("Z +0000\n{lines}\n"));
+    let near = [0, 1, MINUTES_OF_A_DAY - 1, MINUTES_OF_A_DAY];
+    let minutes = near.into_iter().chain(near.map(|m| LAST_MINUTE - m));
+    let asked = minutes.flat_map(|from| [format!("rising {from}"), format!("falling {from}")]);
+    let past = [format!("rising {}", LAST_MINUTE + 1)];
+    asked
+        .chain(past)
+        .map(|asked| format!("{asked} {SOME}{frames}"))
+        .collect()
+}
+
+/// All minutes of a rule line, rising, and some falling.
+fn whole(line: &str) -> Vec<String> {
+    let rule = frames_of(&format!("Z +0000\n{line}\n"));
+    vec![
+        format!("rising 0 {MANY}{rule}"),
+        format!("falling {LAST_MINUTE} {SOME}{rule}"),
+    ]
+}
+
+/// The COUNT-th day at both ends of COUNT and of the window: from its first day on, from its last day on, and from
+/// the days on from which, where every day is held, the 9,999th is the last day of the window or is past it.
+fn counts(parts: &str) -> Vec<String> {
+    let days = LAST_MINUTE / MINUTES_OF_A_DAY;
+    let starts = [0, days - MOST_COUNT + 1, days - MOST_COUNT + 2, days];
+    let rules = starts.map(|day| frames_of(&rule_from(day, parts)));
+    let asked =
+        |rule: &String| [1, 2, MOST_COUNT - 1, MOST_COUNT].map(|n| format!("nth {n}{rule}"));
+    rules.iter().flat_map(asked).collect()
+}
+
+/// The rule from the first day on, at or after the given one, that it holds.
+fn rule_from(day: i64, parts: &str) -> String {
+    let line = |day| {
+        let start = written(day * MINUTES_OF_A_DAY);
+        format!("Z +0000\nR {start} {parts}\n")
+    };
+    let taken = |sheet: &String| compile(sheet.as_bytes(), usize::MAX).0.number == 0;
+    let mut sheets = (day..).map(line);
+    sheets.find(taken).unwrap_or_default()
 }
 
 fn round(random: &mut Random) -> Vec<String> {
     let rule = frames_of(&format!("Z +0000\n{}\n", rule_line(random)));
+    let large = large_set_rule_line(random);
     let cron = frames_of(&format!("Z +0000\n{}\n", cron_line(random)));
     let many = frames_of(&sheet(random));
     let mut all = vec![
@@ -29,17 +114,17 @@ fn round(random: &mut Random) -> Vec<String> {
         format!("falling {} {SOME}{cron}", random.between(0, LAST_MINUTE)),
         format!("rising {} {SOME}{many}", random.between(0, LAST_MINUTE)),
         format!("falling {} {SOME}{many}", random.between(0, LAST_MINUTE)),
+        format!("nth {}{rule}", random.between(1, 60)),
+        format!("nth {}{rule}", random.between(1, MOST_COUNT)),
     ];
-    if !rule.is_empty() {
-        all.push(format!("nth {}{rule}", random.between(1, 60)));
-        all.push(format!("nth {}{rule}", random.between(1, 9_999)));
-    }
+    all.extend(whole(&large));
     all
 }
 
-/// The lines of a compiled sheet that are no zone and no end, each after a space; of a refused one none.
+/// The lines of a sheet's plan that are no zone and no end, each after a space.
 fn frames_of(sheet: &str) -> String {
-    let (_, plan) = compile(sheet.as_bytes(), usize::MAX);
+    let (compiled, plan) = compile(sheet.as_bytes(), usize::MAX);
+    assert_eq!(compiled.number, 0, "this sheet should be taken:\n{sheet}");
     plan.lines()
         .filter(|line| !["01", "02", "FF"].contains(&&line[..2]))
         .map(|line| format!(" {line}"))

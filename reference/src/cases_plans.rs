@@ -1,15 +1,17 @@
 //! The suite `plans`: the load check, next, previous and local minutes of generated plans, taken and damaged.
 
+use crate::cases_zones::plans_of_zones;
 use crate::entries::compile;
 use crate::generate::{
-    bad_plan, crowded_sheet, damaged, damaged_everywhere, empty_sheet, ends_sheet, full_sheet,
-    midnight_sheet, near_a_transition, plans_at_the_edges, plans_at_the_zone_limits, sheet,
+    all_positions, bad_plan, crowded_sheet, damaged, damaged_everywhere, empty_sheet, ends_sheet,
+    full_sheet, large_set_sheet, midnight_sheet, near_a_transition, offset_text,
+    plans_at_the_edges, plans_at_the_zone_limits, sheet,
 };
 use crate::hex::word_of;
 use crate::local::{FIRST_MINUTE, LAST_MINUTE};
 use crate::plan::{self, frame::Frame, Plan};
 use crate::random::Random;
-use crate::zone::Zone;
+use crate::zone::{Zone, OFFSETS};
 
 type Requests = Box<dyn Iterator<Item = String>>;
 
@@ -58,10 +60,18 @@ pub fn requests(seed: u64, times: u64) -> Requests {
     let mut random = Random::new(seed);
     let mut fixed = example_damaged();
     fixed.extend(lengths_of_a_plan());
+    for text in plans_past_16_bits() {
+        fixed.extend(about_few(&text, &mut random));
+    }
+    for sheet in sheets_at_the_ends().iter().chain(&sheets_of_positions()) {
+        fixed.extend(about(plan_of(sheet).as_bytes(), &mut random));
+    }
     let every_kind = plan_of(EVERY_KIND);
     fixed.extend(about(every_kind.as_bytes(), &mut random));
     let damages = [damaged_everywhere(&every_kind), plans_at_the_zone_limits()].concat();
     fixed.extend(damages.iter().map(|text| check(text)));
+    let zones = plans_of_zones(&mut random, times);
+    fixed.extend(zones.iter().map(|text| check(text.as_bytes())));
     for text in plans_at_the_edges(&mut random) {
         fixed.extend(about(&text, &mut random));
     }
@@ -124,6 +134,57 @@ fn lengths_of_a_plan() -> Vec<String> {
     all
 }
 
+/// No bytes, and plans that are refused for what stands after the example, of which the example alone, or nothing,
+/// would be left if the length were cut to 16 bits.
+fn plans_past_16_bits() -> Vec<Vec<u8>> {
+    let example = EXAMPLE.len();
+    let mut all = vec![Vec::new()];
+    for length in [65_535, 65_536, 65_536 + example, 131_072 + example] {
+        for after in ["0", "\n", "01003C\n"] {
+            let mut text = EXAMPLE.to_string();
+            while text.len() < length {
+                text.push_str(after);
+            }
+            text.truncate(length);
+            all.push(text.into_bytes());
+        }
+    }
+    all
+}
+
+/// Doses at both ends of the window, and every minute of the days there, by the zones at the ends.
+fn sheets_at_the_ends() -> Vec<String> {
+    let doses = ["D 20000101T0000\nD 20991231T2359", "C * * 1,31 1,12 *"];
+    let zones = zones_at_the_ends().into_iter();
+    zones
+        .flat_map(|zone| doses.map(|lines| format!("{zone}\n{lines}\n")))
+        .collect()
+}
+
+/// Offsets at both ends of theirs, by which the latest and the earliest instants are: alone, and with a clock that is
+/// set at an end of the window, to or from such an offset.
+fn zones_at_the_ends() -> Vec<String> {
+    let mut zones = Vec::new();
+    for offset in [*OFFSETS.start(), 0, *OFFSETS.end()] {
+        let one = offset_text(offset);
+        zones.push(format!("Z {one}"));
+        let others = [-180, -1, 1, 180].map(|change| offset + change);
+        for other in others.into_iter().filter(|other| OFFSETS.contains(other)) {
+            let other = offset_text(other);
+            for time in ["20000101T0000", "20000101T0001", "20991231T2359"] {
+                zones.push(format!("Z {one}\nT {time} {other}"));
+                zones.push(format!("Z {other}\nT {time} {one}"));
+            }
+        }
+    }
+    zones
+}
+
+fn sheets_of_positions() -> Vec<String> {
+    let lines = all_positions().into_iter();
+    lines.map(|line| format!("Z +0000\n{line}\n")).collect()
+}
+
 fn line_of_zone_or_extra(place: i64) -> String {
     match place {
         0 => "01003C\n".to_string(),
@@ -154,6 +215,7 @@ fn some_sheet(sort: u64, random: &mut Random) -> String {
         2 => ends_sheet(random),
         3 => crowded_sheet(random),
         4 | 5 => midnight_sheet(random),
+        6 => large_set_sheet(random),
         _ => sheet(random),
     }
 }
@@ -243,7 +305,9 @@ impl Asker<'_> {
         self.once(any);
         for end in [FIRST_INSTANT, LAST_INSTANT] {
             let near = end + self.random.between(-2_000, 2_000);
-            self.once(near);
+            for instant in [end - 1, end, end + 1, near] {
+                self.once(instant);
+            }
         }
     }
 

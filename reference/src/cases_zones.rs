@@ -1,7 +1,11 @@
-//! The suite `zones`: local minutes and instants around the transitions of generated zones.
+//! The suite `zones`: local minutes and instants around the transitions of zones that are taken; and zones at both sides of the limits,
+//! as plans, for the suite `plans`.
 
+use crate::compile::plan_text;
 use crate::local::LAST_MINUTE;
+use crate::plan;
 use crate::random::Random;
+use crate::sheet::line::Line;
 use crate::zone::{Transition, Zone, MOST_TRANSITIONS, OFFSETS};
 
 /// Zones for `--times 1`.
@@ -10,13 +14,83 @@ const ZONES: u64 = 150;
 /// "every local minute within 400 of each transition".
 const NEAR: i64 = 400;
 
+/// Instants at both ends of those that a transition may have, and those just outside.
+const END_INSTANTS: [i64; 6] = [-1, 0, 1, LAST_MINUTE - 1, LAST_MINUTE, LAST_MINUTE + 1];
+
+/// Changes of offset at both sides of their limits.
+const END_CHANGES: [i64; 7] = [-181, -180, -1, 0, 1, 180, 181];
+
 pub fn requests(seed: u64, times: u64) -> Box<dyn Iterator<Item = String>> {
+    let taken = zones_at_the_ends().into_iter().filter(is_taken);
+    let fixed = taken.flat_map(at_the_ends);
     let mut random = Random::new(seed);
     let zones = times.saturating_mul(ZONES);
-    Box::new((0..zones).flat_map(move |_| about_zone(&mut random)))
+    let rounds = (0..zones).flat_map(move |_| about_zone(&mut random));
+    Box::new(fixed.chain(rounds))
 }
 
-/// A zone that is taken, asked around each transition and both ends of the window, and the zone with one limit broken.
+/// Zones at the ends, and generated ones with one limit broken: what the load check says of them is compared.
+pub fn plans_of_zones(random: &mut Random, times: u64) -> Vec<String> {
+    let ends = zones_at_the_ends();
+    let generated = times.saturating_mul(ZONES);
+    let broken: Vec<Zone> = (0..generated)
+        .map(|_| broken(random_zone(random), random))
+        .collect();
+    ends.iter().chain(&broken).map(plan_of_zone).collect()
+}
+
+fn is_taken(zone: &Zone) -> bool {
+    plan::read(plan_of_zone(zone).as_bytes()).is_ok()
+}
+
+fn plan_of_zone(zone: &Zone) -> String {
+    let transitions = zone.transitions.iter().cloned().map(Line::Transition);
+    let lines: Vec<Line> = std::iter::once(Line::Zone(zone.first_offset))
+        .chain(transitions)
+        .collect();
+    plan_text(&lines)
+}
+
+/// Zones without a transition, with one at an end of the window and with one at each end, from offsets at both
+/// ends of theirs and just outside. Many are not taken.
+fn zones_at_the_ends() -> Vec<Zone> {
+    let (least, most) = (*OFFSETS.start(), *OFFSETS.end());
+    let mut zones = Vec::new();
+    for first in [least - 1, least, 0, most, most + 1] {
+        zones.push(zone_of(first, &[]));
+        for other in END_CHANGES.map(|change| first + change) {
+            zones.extend(END_INSTANTS.map(|instant| zone_of(first, &[(instant, other)])));
+            zones.push(zone_of(first, &[(0, other), (LAST_MINUTE, first)]));
+        }
+    }
+    for distance in [2_879, 2_880] {
+        zones.push(zone_of(0, &[(0, 60), (distance, 120)]));
+        let last = LAST_MINUTE - distance;
+        zones.push(zone_of(0, &[(last, 60), (LAST_MINUTE, 120)]));
+    }
+    zones
+}
+
+/// A zone of a first offset, and instants with their new offsets.
+fn zone_of(first_offset: i64, transitions: &[(i64, i64)]) -> Zone {
+    let of = |&(instant, offset): &(i64, i64)| Transition { instant, offset };
+    Zone {
+        first_offset,
+        transitions: transitions.iter().map(of).collect(),
+    }
+}
+
+/// The local minutes and the instants at both ends of the window, a day of each and some outside.
+fn at_the_ends(zone: Zone) -> Vec<String> {
+    vec![
+        request("locals", &zone, -2, 1_442),
+        request("locals", &zone, LAST_MINUTE - 1_440, 1_443),
+        request("offsets", &zone, -1_440, 1_443),
+        request("offsets", &zone, LAST_MINUTE - 2, 1_443),
+    ]
+}
+
+/// A zone, asked around each transition and both ends of the window.
 fn about_zone(random: &mut Random) -> Vec<String> {
     let zone = random_zone(random);
     let mut all = vec![
@@ -33,7 +107,6 @@ fn about_zone(random: &mut Random) -> Vec<String> {
         ));
         all.push(request("offsets", &zone, transition.instant - 2, 5));
     }
-    all.push(request("locals", &broken(zone, random), 0, 1));
     all
 }
 

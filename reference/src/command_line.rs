@@ -1,18 +1,22 @@
 //! The words of the command line.
 
 pub const USAGE: &str = "\
-usage: reference compare SUITE [--seed S] [--times N] -- DRIVER WORDS...
+usage: reference compare SUITE [--seed S] [--times N] [--patience SECONDS] -- DRIVER WORDS...
        reference dump WHAT [--seed S] [--times N]
        reference dump meanings [--seed S] [--sheets N] [--plans N]
        reference answer
 
-  compare  sends the requests of SUITE (dates, zones, frames or plans) to the driver and compares its answers
+  compare  sends the requests of SUITE (dates, zones, frames or plans) to the driver and compares its answers;
+           a driver that sends no further answer for SECONDS (60 where none are given) is killed and has failed
   dump     prints WHAT (dates, rules, cron or zones) for the programs in peers/, or sheets and plans with
            their answers for tools/try-meanings
   answer   is a driver itself: request lines on standard input, answer lines on standard output";
 
 /// The seed where none is given, so that a run without one can be repeated.
 const DEFAULT_SEED: u64 = 1;
+
+/// Seconds without an answer; the slowest answers take hundredths of one.
+const DEFAULT_PATIENCE: u64 = 60;
 
 pub enum Command {
     Compare {
@@ -31,6 +35,7 @@ pub enum Command {
 pub struct Options {
     pub seed: u64,
     pub times: u64,
+    pub patience: u64,
     pub sheets: u64,
     pub plans: u64,
 }
@@ -64,14 +69,19 @@ fn read_options(words: &[String]) -> Option<Options> {
     let mut options = Options {
         seed: DEFAULT_SEED,
         times: 1,
+        patience: DEFAULT_PATIENCE,
         sheets: 200,
         plans: 200,
     };
     for pair in words.chunks(2) {
-        let [name, value] = pair else { return None };
+        let (name, value) = match pair {
+            [name, value] => (name, value),
+            _ => return None,
+        };
         match name.as_str() {
             "--seed" => options.seed = value.parse().ok()?,
             "--times" => options.times = value.parse().ok()?,
+            "--patience" => options.patience = value.parse().ok()?,
             "--sheets" => options.sheets = value.parse().ok()?,
             "--plans" => options.plans = value.parse().ok()?,
             _ => return None,

@@ -1,5 +1,8 @@
 //! The comparison: every request's wanted answer against the driver's, field for field as a line.
 
+use std::sync::Arc;
+use std::time::Duration;
+
 use crate::answer::answer;
 use crate::driver::{ask, Answers};
 
@@ -53,25 +56,39 @@ impl Tally {
     }
 }
 
-/// Sends all requests to the driver, batch by batch, and tallies the answers.
-pub fn compare(words: &[String], mut requests: impl Iterator<Item = String>) -> Tally {
+/// Sends all requests to the driver, batch by batch, and tallies the answers. A driver that does not start, or
+/// that is given up, ends the comparison.
+pub fn compare(
+    words: &[String],
+    patience: Duration,
+    mut requests: impl Iterator<Item = String>,
+) -> Tally {
     let mut tally = Tally::default();
     loop {
-        let batch: Vec<String> = requests.by_ref().take(BATCH).collect();
+        let batch: Arc<Vec<String>> = Arc::new(requests.by_ref().take(BATCH).collect());
         if batch.is_empty() {
             return tally;
         }
-        match ask(words, &batch) {
+        match ask(words, &batch, patience) {
             Ok(answers) => compare_batch(&mut tally, &batch, &answers),
             Err(error) => {
-                tally.difference("(start of the driver)", "answers", &error.to_string());
+                tally.difference(
+                    "(the driver)",
+                    "all answers, and its end",
+                    &error.to_string(),
+                );
                 return tally;
             }
         }
     }
 }
 
+/// The end of the driver comes first: it may say why answers are missing.
 fn compare_batch(tally: &mut Tally, batch: &[String], answers: &Answers) {
+    if !answers.status.success() {
+        let ended = answers.status.to_string();
+        tally.difference("(end of the driver)", "exit status: 0", &ended);
+    }
     let mut lines = answers.lines.iter();
     for request in batch {
         let wanted = answer(request).unwrap_or_else(|| "(no request of the protocol)".to_string());
@@ -80,9 +97,5 @@ fn compare_batch(tally: &mut Tally, batch: &[String], answers: &Answers) {
     }
     for line in lines {
         tally.difference("(after the last request)", "(no answer)", line);
-    }
-    if !answers.status.success() {
-        let ended = answers.status.to_string();
-        tally.difference("(end of the driver)", "exit status: 0", &ended);
     }
 }

@@ -1,6 +1,6 @@
 //! Days and weeks: the whole calendar is written out once, day by day, and then looked up.
 
-use std::sync::OnceLock;
+use std::sync::Mutex;
 
 /// "The range is -719,162 to 2,932,896."
 pub const FIRST_DAY: i64 = -719_162;
@@ -88,12 +88,22 @@ fn wide((first, second, third): (u16, u8, u8)) -> (i64, i64, i64) {
     (first.into(), second.into(), third.into())
 }
 
+/// Each thread asks for the calendar once and then keeps it, so that no lookup waits for another.
 fn calendar() -> &'static [Row] {
-    static CALENDAR: OnceLock<Vec<Row>> = OnceLock::new();
-    CALENDAR.get_or_init(|| {
+    thread_local! {
+        static OURS: &'static [Row] = shared_calendar();
+    }
+    OURS.with(|rows| *rows)
+}
+
+/// Made by the first thread that asks; it lasts as long as the program.
+fn shared_calendar() -> &'static [Row] {
+    static MADE: Mutex<Option<&'static [Row]>> = Mutex::new(None);
+    let mut made = MADE.lock().expect("making the calendar does not fail");
+    made.get_or_insert_with(|| {
         let mut rows = written_out();
         assign_iso_weeks(&mut rows);
-        rows
+        Box::leak(rows.into_boxed_slice())
     })
 }
 

@@ -18,9 +18,9 @@ const SHOWN: usize = 300;
 /// A line for each day: day, year, month, day of month, ISO year, ISO week, ISO weekday, weekday.
 pub fn dates(out: &mut impl Write) -> io::Result<()> {
     for day in FIRST_DAY..=LAST_DAY {
-        let (Some(date), Some(iso)) = (date_of_day(day), iso_of_day(day)) else {
-            return Err(io::Error::other(format!("day {day} is missing")));
-        };
+        let (date, iso) = date_of_day(day)
+            .zip(iso_of_day(day))
+            .ok_or_else(|| failed(format!("day {day} is missing")))?;
         writeln!(
             out,
             "{day} {} {} {} {} {} {} {}",
@@ -34,6 +34,10 @@ pub fn dates(out: &mut impl Write) -> io::Result<()> {
         )?;
     }
     Ok(())
+}
+
+fn failed(why: String) -> io::Error {
+    io::Error::new(io::ErrorKind::Other, why)
 }
 
 /// A line for each random R line: its text, its start, and the held times from there on.
@@ -80,7 +84,7 @@ pub fn zones(seed: u64, times: u64, out: &mut impl Write) -> io::Result<()> {
 fn meaning_of(text: &str) -> io::Result<Meaning> {
     sheet::read(format!("{text}\n").as_bytes())
         .map(|lines| of_sheet(&lines))
-        .map_err(|refusal| io::Error::other(format!("{text}: {refusal:?}")))
+        .map_err(|refusal| failed(format!("{text}: {refusal:?}")))
 }
 
 /// `LINE|FROM|whole or cut|TIMES`: the held times of a sheet with this one line.

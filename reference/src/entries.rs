@@ -1,7 +1,8 @@
 //! The answers of the entry points: "A refusal answers its number, its line or 0, and zeros for every other
 //! number".
 
-use std::cell::OnceCell;
+use std::cell::RefCell;
+use std::rc::Rc;
 
 use crate::compile::plan_text;
 use crate::local::is_local_minute;
@@ -59,14 +60,14 @@ fn refused(refusal: Refusal) -> Compiled {
 /// A plan as the entry points see it: taken, or the line of refusal 10. Its meaning is made when first asked for.
 pub struct Loaded {
     plan: Result<Plan, u64>,
-    meaning: OnceCell<Meaning>,
+    meaning: RefCell<Option<Rc<Meaning>>>,
 }
 
 impl Loaded {
     pub fn new(plan: &[u8]) -> Loaded {
         Loaded {
             plan: plan::read(plan),
-            meaning: OnceCell::new(),
+            meaning: RefCell::new(None),
         }
     }
 
@@ -92,8 +93,9 @@ impl Loaded {
         })
     }
 
-    fn meaning(&self, plan: &Plan) -> &Meaning {
-        self.meaning.get_or_init(|| plan::of_plan(plan))
+    fn meaning(&self, plan: &Plan) -> Rc<Meaning> {
+        let mut made = self.meaning.borrow_mut();
+        Rc::clone(made.get_or_insert_with(|| Rc::new(plan::of_plan(plan))))
     }
 
     /// 10 and its line first; then the search's own number, with line 0; else the instant.

@@ -2,6 +2,7 @@
 //! sharing nothing with the code under test.
 
 pub mod answer;
+pub mod answer_frames;
 pub mod answer_plans;
 pub mod cases_dates;
 pub mod cases_frames;

@@ -1,5 +1,6 @@
 use std::io::{self, BufRead, BufWriter, Write};
 use std::process::ExitCode;
+use std::time::Duration;
 
 use reference::command_line::{read, Command, Options, USAGE};
 use reference::{
@@ -43,7 +44,7 @@ fn compare_suite(suite: &str, options: &Options, driver: &[String]) -> io::Resul
         "suite {suite}, seed {}, times {}",
         options.seed, options.times
     );
-    let tally = compare::compare(driver, requests);
+    let tally = compare::compare(driver, Duration::from_secs(options.patience), requests);
     println!(
         "compared {} answers, {} differ",
         tally.compared, tally.differ

@@ -1,17 +1,27 @@
 //! The comparison itself: the reference as a driver agrees, and each kind of wrong driver is caught.
 
+use std::time::{Duration, Instant};
+
 use reference::compare::{compare, Tally};
 use reference::hex::word_of;
 use reference::{cases_dates, cases_plans};
 
 const BINARY: &str = env!("CARGO_BIN_EXE_reference");
 const ASKED: u64 = 1000;
+const PATIENCE: Duration = Duration::from_secs(60);
 
-/// The outcome for a driver that is a shell line, in which `REFERENCE` answers rightly.
-fn tally(shell_line: &str) -> Tally {
+/// The words of a driver that is a shell line, in which `REFERENCE` answers rightly.
+fn driver(shell_line: &str) -> [String; 3] {
     let line = shell_line.replace("REFERENCE", &format!("'{BINARY}' answer"));
-    let words = ["sh", "-c", line.as_str()].map(str::to_string);
-    compare(&words, cases_dates::requests(1, 0).take(ASKED as usize))
+    ["sh", "-c", line.as_str()].map(str::to_string)
+}
+
+fn requests() -> impl Iterator<Item = String> {
+    cases_dates::requests(1, 0).take(ASKED as usize)
+}
+
+fn tally(shell_line: &str) -> Tally {
+    compare(&driver(shell_line), PATIENCE, requests())
 }
 
 #[test]
@@ -55,24 +65,40 @@ fn an_early_death_is_caught() {
 #[test]
 fn a_driver_that_cannot_start_is_caught() {
     let words = ["no-such-driver".to_string()];
-    assert!(!compare(&words, cases_dates::requests(1, 0).take(9)).is_good());
-    assert!(!compare(&[], cases_dates::requests(1, 0).take(9)).is_good());
+    assert!(!compare(&words, PATIENCE, cases_dates::requests(1, 0).take(9)).is_good());
+    assert!(!compare(&[], PATIENCE, cases_dates::requests(1, 0).take(9)).is_good());
+}
+
+/// At once, after some answers, after all of them, and after the end of its output.
+#[test]
+fn a_driver_that_hangs_is_killed() {
+    for line in [
+        "exec sleep 600",
+        "REFERENCE | head -n 5; exec sleep 600",
+        "REFERENCE; exec sleep 600",
+        "REFERENCE; exec sleep 600 >&-",
+        "exec cat /dev/zero",
+    ] {
+        let began = Instant::now();
+        let tally = compare(&driver(line), Duration::from_secs(1), requests());
+        assert!(!tally.is_good(), "{line}");
+        assert!(began.elapsed() < Duration::from_secs(60), "{line}");
+    }
 }
 
 #[test]
 fn nothing_compared_is_not_good() {
     let words = ["true".to_string()];
-    assert!(!compare(&words, std::iter::empty()).is_good());
+    assert!(!compare(&words, PATIENCE, std::iter::empty()).is_good());
 }
 
 /// The outcome for fifty damaged plans, a load check each, and five answers in turn of a plan of one zone and two
 /// extra minutes, of which two are instants.
 fn tally_of_plans(shell_line: &str) -> Tally {
-    let line = shell_line.replace("REFERENCE", &format!("'{BINARY}' answer"));
-    let words = ["sh", "-c", line.as_str()].map(str::to_string);
     let plan = word_of(b"010000\n0500000007\n0500000009\nFF03\n");
     let requests = cases_plans::requests(1, 0).take(50);
-    compare(&words, requests.chain([format!("next {plan} 0 5")]))
+    let requests = requests.chain([format!("next {plan} 0 5")]);
+    compare(&driver(shell_line), PATIENCE, requests)
 }
 
 #[test]

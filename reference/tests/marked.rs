@@ -98,8 +98,9 @@ fn j_three_months_with_a_31st() {
         ["20260131T0600", "20260331T0600", "20260531T0600"]
     );
     let plan = plan_of(&format!("Z +0000\n{line}\n"));
-    let Some(Frame::Rule(rule)) = plan.frames.get(1) else {
-        panic!("the second frame is the rule");
+    let rule = match plan.frames.get(1) {
+        Some(Frame::Rule(rule)) => rule,
+        _ => panic!("the second frame is the rule"),
     };
     assert_eq!(rule.last, 13_892_040);
     assert_eq!(minute_of(2026, 5, 31, 6, 0), Some(rule.last));
@@ -122,7 +123,7 @@ fn l_every_13th_and_every_friday() {
     let meaning = meaning("Z +0000\nC 0 0 13 * 5\n");
     let held: Vec<i64> = meaning.minutes.rising_from(0).collect();
     let is_wanted =
-        |day: &i64| weekday(*day) == 5 || date_of_day(*day).is_some_and(|date| date.day == 13);
+        |day: &i64| weekday(*day) == 5 || date_of_day(*day).map_or(false, |date| date.day == 13);
     let wanted: Vec<i64> = days()
         .filter(is_wanted)
         .map(|day| minute_at(day, 0))

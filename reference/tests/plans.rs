@@ -267,7 +267,12 @@ fn monthly_masks() {
     assert!(!taken(&neither) && !taken(&with(&neither, 31, "00000002")));
     assert!(taken(&with(&neither, 12, "40")) && !taken(&with(&neither, 12, "20")));
     assert!(taken(&with(&neither, 17, "00000002")));
-    for (byte, is_start) in (21..31).zip([false, false, false, false, true, true]) {
+    // the start is the fifth Saturday and the last: ordinals 1 to 5 and -1 to -5
+    let is_start = [
+        false, false, false, false, true, true, false, false, false, false,
+    ];
+    assert_eq!(is_start.len(), (21..31).len());
+    for (byte, is_start) in (21..31).zip(is_start) {
         assert_eq!(taken(&with(&neither, byte, "40")), is_start, "byte {byte}");
         assert!(!taken(&with(&neither, byte, "C0")), "byte {byte}");
     }

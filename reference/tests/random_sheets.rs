@@ -11,8 +11,9 @@ use reference::{plan, sheet as sheets};
 const SHEETS: u64 = 300;
 const SEARCHED_SHEETS: u64 = 100;
 
-/// Sheets that hold more minutes are left out where the whole list of instants is made.
+/// Sheets that hold more minutes are left out where the whole list of instants is made, and others tried, so many.
 const MOST_MINUTES: usize = 50_000;
+const TRIED_SEEDS: u64 = 1_000;
 
 fn meaning_of_sheet(text: &str) -> Meaning {
     match sheets::read(text.as_bytes()) {
@@ -86,23 +87,30 @@ fn found(instant: Option<&i64>) -> Found {
 
 #[test]
 fn searches_find_the_neighbours_in_the_whole_list() {
-    for seed in 0..SEARCHED_SHEETS {
+    let mut searched = 0;
+    for seed in 0..TRIED_SEEDS {
         let mut random = Random::new(seed);
         let text = sheet(&mut random);
         let meaning = meaning_of_sheet(&text);
-        if meaning.minutes.rising_from(0).count() > MOST_MINUTES {
+        if meaning.minutes.rising_from(0).nth(MOST_MINUTES).is_some() {
             continue;
         }
         let neighbours = Neighbours::of(&text);
         for _ in 0..200 {
             neighbours.check(asked_instant(&meaning.zone, &mut random));
         }
+        searched += 1;
+        if searched == SEARCHED_SHEETS {
+            return;
+        }
     }
+    panic!("of {TRIED_SEEDS} sheets only {searched} are short enough");
 }
 
 /// Every instant around each transition, where many minutes on both sides of it are held.
 #[test]
 fn searches_around_transitions() {
+    let mut transitions = 0;
     for seed in 0..SEARCHED_SHEETS {
         let text = crowded_sheet(&mut Random::new(seed));
         let neighbours = Neighbours::of(&text);
@@ -110,8 +118,10 @@ fn searches_around_transitions() {
             for distance in -250..=250 {
                 neighbours.check(transition.instant + distance);
             }
+            transitions += 1;
         }
     }
+    assert!(transitions >= SEARCHED_SHEETS, "{transitions} transitions");
 }
 
 fn asked_instant(zone: &Zone, random: &mut Random) -> i64 {

@@ -236,7 +236,7 @@ fn with_frames_moved(mut frames: Vec<Vec<u8>>, random: &mut Random) -> Vec<u8> {
 
 /// The last frame becomes an end frame whose number is right.
 fn set_right_number(frames: &mut Vec<Vec<u8>>) {
-    if frames.last().is_some_and(|frame| frame[0] == 0xFF) {
+    if frames.last().map_or(false, |frame| frame[0] == 0xFF) {
         frames.pop();
     }
     frames.push(vec![0xFF, frames.len() as u8]);

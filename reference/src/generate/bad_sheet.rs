@@ -27,7 +27,7 @@ pub fn bad_sheet(number: u64, random: &mut Random) -> Vec<u8> {
 pub fn refused_sheet(number: u64, random: &mut Random) -> Vec<u8> {
     loop {
         let text = bad_sheet(number, random);
-        if read(&text).is_err_and(|refusal| refusal.number == number) {
+        if matches!(read(&text), Err(refusal) if refusal.number == number) {
             return text;
         }
     }

@@ -16,8 +16,8 @@ pub use bad_plan::{
 pub use bad_sheet::{bad_sheet, refused_sheet};
 pub use cron::cron_line;
 pub use edge_sheets::{empty_sheet, ends_sheet, full_sheet, midnight_sheet};
-pub use rule::rule_line;
-pub use zones::zone_lines;
+pub use rule::{all_positions, large_set_rule_line, rule_line};
+pub use zones::{offset_text, zone_lines};
 
 use crate::local::{written, FIRST_MINUTE, LAST_MINUTE};
 use crate::meaning::{of_sheet, Meaning};
@@ -37,10 +37,21 @@ pub fn sheet(random: &mut Random) -> String {
     with_times(lines, random)
 }
 
+/// A sheet whose rules pick from large sets.
+pub fn large_set_sheet(random: &mut Random) -> String {
+    let mut lines = zone_lines(random);
+    lines.truncate(4);
+    for _ in 0..random.between(1, 4) {
+        lines.push(large_set_rule_line(random));
+    }
+    with_times(lines, random)
+}
+
 /// The lines with some extra and some excepted times.
 fn with_times(mut lines: Vec<String>, random: &mut Random) -> String {
-    let Ok(taken) = read(text_of(&lines).as_bytes()) else {
-        return text_of(&lines); // a sheet that is not taken is for the caller to see
+    let taken = match read(text_of(&lines).as_bytes()) {
+        Ok(taken) => taken,
+        Err(_) => return text_of(&lines), // a sheet that is not taken is for the caller to see
     };
     let meaning = of_sheet(&taken);
     for _ in 0..random.between(0, 5) {

@@ -7,14 +7,57 @@ use crate::sheet::line::{Frequency, Rule, WeekdayEntry};
 
 /// An R line: the first occurrence from a random minute on becomes the start.
 pub fn rule_line(random: &mut Random) -> String {
+    line_of(rule_without_end, random)
+}
+
+/// An R line with BYSETPOS anywhere in a set of many days.
+pub fn large_set_rule_line(random: &mut Random) -> String {
+    line_of(large_set_rule, random)
+}
+
+/// An R line for each position from 1 to 31 and from -1 to -31: the position alone, in months of all their days.
+pub fn all_positions() -> Vec<String> {
+    let line = |(day, position): (i64, i64)| {
+        format!("R 200001{day:02}T0600 FREQ=MONTHLY;BYDAY=SU,MO,TU,WE,TH,FR,SA;BYSETPOS={position}")
+    };
+    let places = (1..=31).flat_map(|n| [(n, n), (32 - n, -n)]);
+    places.map(line).collect()
+}
+
+fn line_of(some_rule: fn(&mut Random) -> Rule, random: &mut Random) -> String {
     loop {
-        let mut rule = rule_without_end(random);
+        let mut rule = some_rule(random);
         let first = occurrences(&rule).next();
         if let Some(start) = first {
             rule.start = start;
             set_end(&mut rule, random);
             return format!("R {} {}", written(start), parts_text(&rule, random));
         }
+    }
+}
+
+/// A month's set of 8 to 31 days, by weekdays or month days, and positions of any size.
+fn large_set_rule(random: &mut Random) -> Rule {
+    let by_weekdays = one_in(2, random);
+    let plain = |weekday| WeekdayEntry {
+        ordinal: None,
+        weekday,
+    };
+    let weekdays = random.between(2, 7);
+    let month_days = random.between(8, 24); // so that the line is not too long
+    Rule {
+        start: random.between(FIRST_MINUTE, LAST_MINUTE),
+        frequency: Frequency::Monthly,
+        interval: random.between(1, 3),
+        count: None,
+        until: None,
+        by_day: by_weekdays.then(|| (7 - weekdays..7).map(plain).collect()),
+        by_month_day: (!by_weekdays).then(|| (1..=month_days).collect()),
+        by_set_pos: Some(
+            (0..random.between(1, 4))
+                .map(|_| signed_up_to(31, random))
+                .collect(),
+        ),
     }
 }
 

@@ -18,7 +18,7 @@ pub fn add(cron: &Cron, minutes: &mut MinuteSet) {
 }
 
 fn month_and_day_match(cron: &Cron, day: i64) -> bool {
-    date_of_day(day).is_some_and(|date| {
+    date_of_day(day).map_or(false, |date| {
         let day_of_month = cron.day_of_month.matches(date.day);
         let day_of_week = cron.day_of_week.matches(weekday(day));
         // "if day of month and day of week are both restricted, either suffices; else both must match"

@@ -55,11 +55,11 @@ impl Meaning {
         let asked = asked.clamp(-OFFSETS.end() - 1, LAST_MINUTE - OFFSETS.start());
         let mut best: Option<i64> = None;
         for minute in self.minutes.rising_from(asked + OFFSETS.start()) {
-            if best.is_some_and(|found| minute > found + OFFSETS.end()) {
+            if best.map_or(false, |found| minute > found + OFFSETS.end()) {
                 break;
             }
             let instant = self.zone.instant_of(minute);
-            if instant > asked && best.is_none_or(|found| instant < found) {
+            if instant > asked && best.map_or(true, |found| instant < found) {
                 best = Some(instant);
             }
         }
@@ -71,11 +71,11 @@ impl Meaning {
         let asked = asked.clamp(-OFFSETS.end(), LAST_MINUTE - OFFSETS.start() + 1);
         let mut best: Option<i64> = None;
         for minute in self.minutes.falling_from(asked + OFFSETS.end()) {
-            if best.is_some_and(|found| minute < found + OFFSETS.start()) {
+            if best.map_or(false, |found| minute < found + OFFSETS.start()) {
                 break;
             }
             let instant = self.zone.instant_of(minute);
-            if instant < asked && best.is_none_or(|found| instant > found) {
+            if instant < asked && best.map_or(true, |found| instant > found) {
                 best = Some(instant);
             }
         }

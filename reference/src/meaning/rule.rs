@@ -11,7 +11,7 @@ pub fn occurrences(rule: &Rule) -> impl Iterator<Item = i64> + '_ {
     let most = rule.count.map_or(usize::MAX, |count| count as usize);
     unlimited(rule)
         .take(most)
-        .take_while(|minute| rule.until.is_none_or(|until| *minute <= until))
+        .take_while(|minute| rule.until.map_or(true, |until| *minute <= until))
 }
 
 /// The COUNT-th occurrence, if there are so many.
@@ -80,10 +80,10 @@ fn is_in_set(rule: &Rule, day: i64) -> bool {
         (_, by_day, by_month_day) => {
             let by_day_allows = by_day
                 .as_ref()
-                .is_none_or(|list| weekday_matches(list, day));
+                .map_or(true, |list| weekday_matches(list, day));
             let by_month_day_allows = by_month_day
                 .as_ref()
-                .is_none_or(|list| month_day_matches(list, day));
+                .map_or(true, |list| month_day_matches(list, day));
             by_day_allows && by_month_day_allows
         }
     }
@@ -94,7 +94,7 @@ fn weekday_matches(list: &[WeekdayEntry], day: i64) -> bool {
     list.iter().any(|entry| {
         let place_matches = entry
             .ordinal
-            .is_none_or(|ordinal| ordinals_of(day).contains(&ordinal));
+            .map_or(true, |ordinal| ordinals_of(day).contains(&ordinal));
         entry.weekday == weekday(day) && place_matches
     })
 }
@@ -120,8 +120,9 @@ fn month_day_matches(list: &[i64], day: i64) -> bool {
 /// "BYSETPOS picks from the period's whole rising day set, days before the start included; a place that does
 /// not exist picks nothing."
 fn positions(rule: &Rule, days: Vec<i64>) -> Vec<i64> {
-    let Some(places) = &rule.by_set_pos else {
-        return days;
+    let places = match &rule.by_set_pos {
+        Some(places) => places,
+        None => return days,
     };
     let length = days.len() as i64;
     let is_picked =

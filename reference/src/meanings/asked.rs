@@ -57,8 +57,9 @@ fn beside(minute: i64, random: &mut Random) -> i64 {
 /// The ends of a gap or of a doubled hour, a minute to each side, and a minute within.
 fn around_a_transition(zone: &Zone, random: &mut Random) -> Vec<i64> {
     let chosen = random.between(0, zone.transitions.len().max(1) as i64 - 1);
-    let Some(transition) = zone.transitions.get(chosen as usize) else {
-        return Vec::new();
+    let transition = match zone.transitions.get(chosen as usize) {
+        Some(transition) => transition,
+        None => return Vec::new(),
     };
     let shown_before = transition.instant + zone.offset_at(transition.instant - 1);
     let shown_after = transition.instant + transition.offset;

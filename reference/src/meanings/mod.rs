@@ -63,8 +63,8 @@ fn some_sheet(sort: u64, random: &mut Random) -> Vec<u8> {
         let text = match sort {
             0 => crowded_sheet(random).into_bytes(),
             1..=4 => sheet(random).into_bytes(),
-            5..TAKEN_SORTS => short_sheet(random).into_bytes(),
-            TAKEN_SORTS..REFUSED_SORTS => refused_sheet(sort - TAKEN_SORTS + 1, random),
+            _ if sort < TAKEN_SORTS => short_sheet(random).into_bytes(),
+            _ if sort < REFUSED_SORTS => refused_sheet(sort - TAKEN_SORTS + 1, random),
             _ => bad_sheet(sort - REFUSED_SORTS + 1, random),
         };
         let lines = read(&text).unwrap_or_default();

@@ -2,7 +2,7 @@
 
 use super::frame::{CronFrame, Frame, RuleFrame};
 use super::Plan;
-use crate::dates::{date_of_day, day_of_date, month_length, weekday, Date};
+use crate::dates::{date_of_day, month_length, weekday, Date};
 use crate::local::{day_of_minute, days, minute_at, time_of_minute, MINUTES_OF_A_DAY};
 use crate::meaning::Meaning;
 use crate::minutes::MinuteSet;
@@ -123,8 +123,8 @@ fn position_holds(rule: &RuleFrame, day: i64) -> bool {
         return true;
     }
     let date = date_of(day);
-    let set: Vec<i64> = (1..=month_length(date.year, date.month))
-        .filter_map(|other| day_of_date(date.year, date.month, other))
+    let first = day - (date.day - 1);
+    let set: Vec<i64> = (first..first + month_length(date.year, date.month))
         .filter(|&other| in_day_set(rule, other))
         .collect();
     let place = set.iter().filter(|&&other| other <= day).count() as i64;

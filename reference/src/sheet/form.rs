@@ -166,7 +166,8 @@ fn comma_list<Entry>(text: &str, entry: fn(&str) -> Option<Entry>) -> Option<Vec
 
 /// "a comma list of `SU MO TU WE TH FR SA`, each with an optional signed ordinal".
 fn weekday_entry(text: &str) -> Option<WeekdayEntry> {
-    let (ordinal, word) = text.split_at_checked(text.len().checked_sub(2)?)?;
+    let word_at = text.len().checked_sub(2)?;
+    let (ordinal, word) = (text.get(..word_at)?, text.get(word_at..)?);
     let words = ["SU", "MO", "TU", "WE", "TH", "FR", "SA"];
     let weekday = words.iter().position(|&name| name == word)? as i64;
     let ordinal = match ordinal {

@@ -104,7 +104,7 @@ fn transition_limits_hold(before: &[Line], line: &Line) -> bool {
 fn start_holds(line: &Line) -> bool {
     match line {
         Line::Rule(rule) => {
-            start_is_occurrence(rule) && rule.until.is_none_or(|until| until >= rule.start)
+            start_is_occurrence(rule) && rule.until.map_or(true, |until| until >= rule.start)
         }
         _ => true,
     }

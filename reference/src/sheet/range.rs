@@ -96,7 +96,7 @@ fn part(part: Part<TimeDigits>) -> Option<Part<i64>> {
 fn ordinal_holds(entry: &WeekdayEntry) -> bool {
     entry
         .ordinal
-        .is_none_or(|ordinal| (1..=5).contains(&ordinal.abs()))
+        .map_or(true, |ordinal| (1..=5).contains(&ordinal.abs()))
 }
 
 /// "-31 to 31 without 0".
