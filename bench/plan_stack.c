@@ -7,52 +7,78 @@
 #include "plans.h"
 #include "touched.h"
 
-static void *dates(void *plan) {
-    int64_t ends[] = {INT64_MIN, -719162, 11016, 2932896, INT64_MAX};
-    uint64_t sum = 0;
-    for (size_t i = 0; i < sizeof ends / sizeof ends[0]; i++) {
-        evk_date date = evk_date_of_day(ends[i]);
-        evk_iso iso = evk_iso_of_day(ends[i]);
-        sum += evk_day_of_date(date.year, date.month, date.day).number + evk_day_of_iso(iso.year, iso.week, iso.weekday).number;
+/* Below, each answers NULL where all is right, and else its argument, a struct plan_case. */
+
+/* Document 01's marked cases (c), (d) and (e), there and back. */
+static void *dates(void *at) {
+    static const struct {
+        int64_t number, year, month, day;
+    } known[] = {{-719162, 1, 1, 1}, {2932896, 9999, 12, 31}, {11016, 2000, 2, 29}};
+    int good = 1;
+    for (size_t i = 0; i < sizeof known / sizeof known[0]; i++) {
+        int64_t day = known[i].number;
+        evk_date date = evk_date_of_day(day);
+        evk_iso iso = evk_iso_of_day(day);
+        good &= date.number == EVK_TAKEN && date.year == known[i].year && date.month == known[i].month && date.day == known[i].day;
+        good &= evk_day_of_date(date.year, date.month, date.day).day == day;
+        good &= iso.number == EVK_TAKEN && evk_day_of_iso(iso.year, iso.week, iso.weekday).day == day;
     }
-    return sum == 4 * EVK_OUT_OF_RANGE ? NULL : plan; /* the first and the last are refused, and so are their zeros */
+    good &= evk_date_of_day(INT64_MIN).number == EVK_OUT_OF_RANGE && evk_iso_of_day(INT64_MAX).number == EVK_OUT_OF_RANGE;
+    good &= evk_day_of_date(0, 0, 0).number == EVK_OUT_OF_RANGE && evk_day_of_iso(0, 0, 0).number == EVK_OUT_OF_RANGE;
+    return good ? NULL : at;
 }
 
-static void *check(void *plan) {
-    return evk_check(plan, strlen(plan)).number == EVK_TAKEN ? NULL : plan;
+static void *check(void *at) {
+    const struct plan_case *c = at;
+    return evk_check((const uint8_t *)c->plan, strlen(c->plan)).number == EVK_TAKEN ? NULL : at;
 }
 
-static void *next(void *plan) {
-    evk_found first = evk_next(plan, strlen(plan), INT64_MIN);
-    evk_found none = evk_next(plan, strlen(plan), INT64_MAX);
-    return first.line == 0 && none.number == EVK_NONE ? NULL : plan;
+static int is(evk_found found, uint64_t number, int64_t instant) {
+    return found.number == number && found.line == 0 && found.instant == instant;
 }
 
-static void *previous(void *plan) {
-    evk_found last = evk_previous(plan, strlen(plan), INT64_MAX);
-    evk_found none = evk_previous(plan, strlen(plan), INT64_MIN);
-    return last.line == 0 && none.number == EVK_NONE ? NULL : plan;
+/* From the ends too, where a search is longest. */
+static void *next(void *at) {
+    const struct plan_case *c = at;
+    const uint8_t *plan = (const uint8_t *)c->plan;
+    size_t length = strlen(c->plan);
+    int good = is(evk_next(plan, length, c->from), c->number, c->instant) && is(evk_next(plan, length, INT64_MAX), EVK_NONE, 0);
+    return good && evk_next(plan, length, INT64_MIN).number == c->number ? NULL : at;
 }
 
-static void *local(void *plan) {
-    evk_found last = evk_instant_of_local(plan, strlen(plan), 52595999);
-    evk_found outside = evk_instant_of_local(plan, strlen(plan), 52596000);
-    return last.number == EVK_TAKEN && outside.number == EVK_OUT_OF_RANGE ? NULL : plan;
+/* The last instant before the one after an answer is the answer. */
+static void *previous(void *at) {
+    const struct plan_case *c = at;
+    const uint8_t *plan = (const uint8_t *)c->plan;
+    size_t length = strlen(c->plan);
+    int good = is(evk_previous(plan, length, c->instant + 1), c->number, c->instant) && is(evk_previous(plan, length, INT64_MIN), EVK_NONE, 0);
+    return good && evk_previous(plan, length, INT64_MAX).number == c->number ? NULL : at;
+}
+
+/* In 2099 the offset of all these plans is +0100, 60 minutes. */
+static void *local(void *at) {
+    const struct plan_case *c = at;
+    const uint8_t *plan = (const uint8_t *)c->plan;
+    size_t length = strlen(c->plan);
+    int good = is(evk_instant_of_local(plan, length, 52595999), EVK_TAKEN, 52595999 - 60);
+    return good && is(evk_instant_of_local(plan, length, 52596000), EVK_OUT_OF_RANGE, 0) ? NULL : at;
 }
 
 int main(void) {
-    static char plan[8192]; /* a thread's argument is no constant */
     static const struct {
         const char *name;
-        void *(*work)(void *plan);
+        void *(*work)(void *plan_case);
     } all[] = {{"dates", dates}, {"check", check}, {"next", next}, {"previous", previous}, {"local", local}};
     int status = 0;
     for (size_t i = 0; i < sizeof all / sizeof all[0]; i++) {
         size_t most = 0;
         void *wrong = NULL;
         for (int k = 0; k < PLAN_CASES && wrong == NULL; k++) {
-            strcpy(plan, plan_cases[k].plan);
-            size_t used = touched(all[i].work, plan, &wrong);
+            if (k == CHECK_ALONE) {
+                continue; /* it has another case's plan and no instant */
+            }
+            struct plan_case c = plan_cases[k];
+            size_t used = touched(all[i].work, &c, &wrong);
             most = used > most ? used : most;
         }
         printf("%6zu of %d bytes of stack, the thread's own among them  %s%s\n", most, STACK, all[i].name, wrong ? ": WRONG" : "");

@@ -1,5 +1,5 @@
 /* The stack that a search takes, at its deepest: it runs on a thread whose stack was filled beforehand, up and down over the whole window.
-   Exit status 1 where a search takes 8 KiB or more. */
+   Exit status 1 where a search takes 8 KiB or more, or none at all, or answers wrongly. */
 #define _POSIX_C_SOURCE 200809L
 #include <stdio.h>
 
@@ -8,26 +8,34 @@
 
 enum { MOST = 8192 };
 
+struct asked {
+    const frame *frames;
+    uint64_t up, down;
+};
+
 static void *nothing(void *ignored) {
     return ignored;
 }
 
 static void *search(void *at) {
-    const struct bench_case *c = at;
-    uint64_t up = probe_list_least(c->frames, 1, 0, MINUTES);
-    uint64_t down = probe_list_last(c->frames, 1, 0, MINUTES);
-    return up == down ? NULL : at;
+    struct asked *asked = at;
+    asked->up = probe_list_least(asked->frames, 1, 0, MINUTES);
+    asked->down = probe_list_last(asked->frames, 1, 0, MINUTES);
+    return NULL;
 }
 
 int main(void) {
     size_t base = touched(nothing, NULL, NULL);
     int status = 0;
     for (int k = 0; k < CASES; k++) {
-        struct bench_case c = bench_cases[k];
-        size_t all = touched(search, &c, NULL);
+        const struct bench_case *c = &bench_cases[k];
+        struct asked asked = {c->frames, 0, 0};
+        size_t all = touched(search, &asked, NULL);
         size_t used = all < base ? 0 : all - base;
-        printf("%6zu bytes of stack  %s\n", used, c.name);
-        status |= used >= MOST;
+        /* the search down answers one more than the minute, or the range's start for none */
+        int good = asked.up == least_of(c->first) && asked.down == (c->last.year == 0 ? 0 : minute_of(c->last) + 1);
+        printf("%6zu bytes of stack  %s%s\n", used, c->name, good ? "" : ": WRONG");
+        status |= used == 0 || used >= MOST || !good;
     }
     return status;
 }
