@@ -1,6 +1,6 @@
 /* Lends bytes to a call so that a wrong access traps: they are read-only, and one page that may not be touched lies right before or right
-   after them. Any other access than a read of the lent bytes ends the driver with status 3 and a line on standard error, except a read
-   inside the same page on the side that has no such page: so lend at either side in turn.
+   after them. A write into them, and an access beyond them into such a page, ends the driver with status 3 and a line on standard
+   error. On their other side they have no such page: so lend at either side in turn.
 
    Define LENT_DRIVER, the driver's name in that line, before this header, which goes before all others. */
 #ifndef LENT_H

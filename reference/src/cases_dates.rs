@@ -25,12 +25,12 @@ const VALID: [(&str, &[i64]); 4] = [
 
 pub fn requests(seed: u64, times: u64) -> Requests {
     let fixed: [Requests; 6] = [
+        Box::new(every_day()),
         Box::new(dates_that_months_lack()),
         Box::new(beyond_the_range()),
         Box::new(wrong_months_and_days()),
         Box::new(ends_of_iso_years()),
         Box::new(extremes()),
-        Box::new(every_day()),
     ];
     let mut random = Random::new(seed);
     let rounds = (0..times.saturating_mul(ROUNDS)).flat_map(move |_| random_round(&mut random));

@@ -21,8 +21,9 @@ const END_INSTANTS: [i64; 6] = [-1, 0, 1, LAST_MINUTE - 1, LAST_MINUTE, LAST_MIN
 const END_CHANGES: [i64; 7] = [-181, -180, -1, 0, 1, 180, 181];
 
 pub fn requests(seed: u64, times: u64) -> Box<dyn Iterator<Item = String>> {
-    let taken = zones_at_the_ends().into_iter().filter(is_taken);
-    let fixed = taken.flat_map(at_the_ends);
+    let taken: Vec<Zone> = zones_at_the_ends().into_iter().filter(is_taken).collect();
+    assert!(!taken.is_empty(), "no zone at the ends is taken");
+    let fixed = taken.into_iter().flat_map(at_the_ends);
     let mut random = Random::new(seed);
     let zones = times.saturating_mul(ZONES);
     let rounds = (0..zones).flat_map(move |_| about_zone(&mut random));

@@ -5,7 +5,7 @@ use crate::year;
 
 pub const LAST_YEAR: u64 = 9999;
 // 9999-12-31.
-pub const LAST_DAY: u64 = signed::DAYS - 1;
+pub const LAST_DAY: u64 = signed::LAST;
 
 pub struct Date {
     pub year: u64,

@@ -17,6 +17,8 @@ pub const MONTHS: u64 = 1200;
 pub const LAST_MONTH: u64 = MONTHS - 1;
 // The minutes of a day.
 pub const DAY: u64 = 1440;
+// The last minute of a day, 23:59.
+pub const LAST_OF_DAY: u64 = DAY - 1;
 // The local minutes.
 pub const MINUTES: u64 = DAYS * DAY;
 // 2099-12-31 23:59.

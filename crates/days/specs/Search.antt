@@ -7,7 +7,7 @@ use Rattle.calendar.specs.Below.{leastFrom, lastFrom}
 use Rattle.frames.specs.Numbers.{dayHeld}
 use Rattle.calendar.specs.Window.{windowDays}
 
--- the least held day from low up to high, or where that range ends; days count to the end of 2099
+-- the least held day from low up to high, or where that range ends, of an empty range low; days count to the end of 2099
 unfoldable pub leastDay : List ℕ → ℕ → ℕ → ℕ
 leastDay l low high = leastFrom (dayHeld l) (min high windowDays - low) low
 

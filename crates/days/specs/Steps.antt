@@ -3,7 +3,7 @@ use mathlib.Core.Bool.{Bool, true, false, cond, _&&_, _||_}
 use mathlib.Core.List.{List}
 use mathlib.Core.Path.{_≡_}
 use Prim.Native.Nat.{ℕ, _+_, _/_, _<_, _≤_}
-use lib.Dec.{leb, eqb}
+use lib.Dec.{leb}
 use lib.ListN.{getD, set}
 use Rattle.calendar.specs.Window.{monthFirst, monthDays, dayMinutes, windowDays, windowMonths}
 use Rattle.masks.specs.Masks.{bit}
@@ -31,19 +31,28 @@ pub record Holds (k d : ℕ) : Type 0 where
   pub from : monthFirst k ≤ d
   pub to : d < monthFirst k + monthDays k
 
--- what a walk keeps beside its frame, by the place in the row
+-- what a walk keeps beside its frame, and its places in the row
+abbrev startMonthPlace : ℕ
+startMonthPlace = 12
+
+abbrev lastMonthPlace : ℕ
+lastMonthPlace = 13
+
+abbrev lastDayPlace : ℕ
+lastDayPlace = 14
+
 abbrev pub startMonthIn : List ℕ → ℕ
-startMonthIn l = getD l 12 0
+startMonthIn l = getD l startMonthPlace 0
 
 abbrev pub lastMonthIn : List ℕ → ℕ
-lastMonthIn l = getD l 13 0
+lastMonthIn l = getD l lastMonthPlace 0
 
 abbrev pub lastDayIn : List ℕ → ℕ
-lastDayIn l = getD l 14 0
+lastDayIn l = getD l lastDayPlace 0
 
 -- a frame made ready for a walk: the start's month, the last month of the walk and its last day stand after the frame's own numbers
 unfoldable pub readied : List ℕ → ℕ → ℕ → List ℕ
-readied l month day = set (set (set l 12 (startMonth l)) 13 month) 14 day
+readied l month day = set (set (set l startMonthPlace (startMonth l)) lastMonthPlace month) lastDayPlace day
 
 pub record Ready (l : List ℕ) : Type 0 where
   pub begun : startMonthIn l ≡ startMonth l

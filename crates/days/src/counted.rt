@@ -2,7 +2,7 @@
 ghost use mathlib.Core.Path.{_≡_};
 ghost use mathlib.Core.Bool.{true, cond};
 ghost use Prim.Native.Nat.{_+_, _-_, _*_, _/_, _≤_, _<_};
-ghost use Rattle.frames.specs.Kinds.{kindIn, ruleKind, frequencyIn};
+ghost use Rattle.frames.specs.Kinds.{kindIn, ruleKind, frequencyIn, dailyNumber, weeklyNumber};
 ghost use Rattle.calendar.specs.Window.{windowDays, windowFirst};
 ghost use Rattle.frames.specs.Numbers.{dayHeld};
 ghost use Rattle.days.specs.Steps.{Passed};
@@ -34,7 +34,7 @@ fn begin(weekly: bool, p: u64) -> u64
 
 // The first day from d on whose period counts, or one past 2099.
 fn period_from(f: &Row, weekly: bool, d: u64) -> u64
-    requires { ⌜ (d ≤ windowDays) × (kindIn (now f) ≡ ruleKind) × (frequencyIn (now f) ≡ cond weekly 2 1) ⌝ }
+    requires { ⌜ (d ≤ windowDays) × (kindIn (now f) ≡ ruleKind) × (frequencyIn (now f) ≡ cond weekly weeklyNumber dailyNumber) ⌝ }
     ensures { λ r. ⌜ Passed (dayHeld (now (f .entry))) d r ⌝ }
 {
     let first = f[places::START] / window::DAY;
@@ -58,7 +58,7 @@ fn period_from(f: &Row, weekly: bool, d: u64) -> u64
 
 // One past the last day below d whose period counts, or 0.
 fn period_before(f: &Row, weekly: bool, d: u64) -> u64
-    requires { ⌜ (d ≤ windowDays) × (kindIn (now f) ≡ ruleKind) × (frequencyIn (now f) ≡ cond weekly 2 1) ⌝ }
+    requires { ⌜ (d ≤ windowDays) × (kindIn (now f) ≡ ruleKind) × (frequencyIn (now f) ≡ cond weekly weeklyNumber dailyNumber) ⌝ }
     ensures { λ r. ⌜ Passed (dayHeld (now (f .entry))) r d ⌝ }
 {
     let first = f[places::START] / window::DAY;

@@ -27,6 +27,19 @@ exceptedKind = 6
 abbrev pub endKind : ℕ
 endKind = 255
 
+-- "at most 64 before the end frame"
+abbrev pub mostFrames : ℕ
+mostFrames = 64
+
+abbrev pub dailyNumber : ℕ
+dailyNumber = 1
+
+abbrev pub weeklyNumber : ℕ
+weeklyNumber = 2
+
+abbrev pub monthlyNumber : ℕ
+monthlyNumber = 3
+
 -- a frame's numbers: its kind first, then a rule's frequency
 abbrev pub kindIn : List ℕ → ℕ
 kindIn l = getD l 0 0
@@ -38,10 +51,10 @@ abbrev pub isKind : ℕ → List ℕ → Bool
 isKind kind l = eqb (kindIn l) kind
 
 abbrev pub isDaily : Rule → Bool
-isDaily f = eqb (f .frequency) 1
+isDaily f = eqb (f .frequency) dailyNumber
 
 abbrev pub isWeekly : Rule → Bool
-isWeekly f = eqb (f .frequency) 2
+isWeekly f = eqb (f .frequency) weeklyNumber
 
 abbrev pub isMonthly : Rule → Bool
-isMonthly f = eqb (f .frequency) 3
+isMonthly f = eqb (f .frequency) monthlyNumber

@@ -3,7 +3,6 @@ use mathlib.Core.Bool.{Bool, true, false, cond, not, _&&_, _||_}
 use mathlib.Core.List.{List}
 use Prim.Native.Nat.{ℕ, _+_, _-_, _/_, _%_, _<_, _≤_}
 use lib.Dec.{eqb}
-use lib.ListN.{getD}
 use Rattle.calendar.specs.Window.{monthFirst, monthDays, windowMonths}
 use Rattle.masks.specs.Masks.{bit, maskFrom, bitsFrom, bitsBelow}
 use Rattle.frames.specs.Kinds.{cronKind, ruleKind, isKind, isDaily, isWeekly}

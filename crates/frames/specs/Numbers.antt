@@ -2,7 +2,6 @@
 use mathlib.Core.Bool.{Bool, false, cond}
 use mathlib.Core.List.{List}
 use Prim.Native.Nat.{ℕ, _/_}
-use lib.Dec.{eqb}
 use lib.ListN.{getD}
 use Rattle.calendar.specs.Window.{localDate, dayMinutes}
 use Rattle.frames.specs.Kinds.{cronKind, ruleKind, isKind}

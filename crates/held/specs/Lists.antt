@@ -3,10 +3,10 @@ use mathlib.Core.Bool.{Bool, not, _&&_}
 use mathlib.Core.List.{List}
 use Prim.Native.Nat.{ℕ, _-_, min}
 use lib.Dec.{eqb}
-use lib.ListN.{getD, take}
+use lib.ListN.{take}
 use Rattle.calendar.specs.Below.{anyOf, leastFrom, lastFrom}
 use Rattle.calendar.specs.Window.{windowMinutes}
-use Rattle.frames.specs.Kinds.{exceptedKind, isKind}
+use Rattle.frames.specs.Kinds.{mostFrames, exceptedKind, isKind}
 use Rattle.frames.specs.Numbers.{minuteIn}
 use Rattle.held.specs.Minutes.{frameHeld}
 
@@ -24,11 +24,11 @@ anyExcepts fs m = anyOf (λ (l : List ℕ). frameExcepts l m) fs
 unfoldable pub listHeld : List (List ℕ) → ℕ → Bool
 listHeld fs m = anyHeld fs m && not (anyExcepts fs m)
 
--- the first so many of 64 frames
+-- the first so many frames
 abbrev pub firstOf : ℕ → List (List ℕ) → List (List ℕ)
-firstOf count fs = take (min count 64) fs
+firstOf count fs = take (min count mostFrames) fs
 
--- the least held minute from low up to high, or where that range ends; minutes count to the end of 2099
+-- the least held minute from low up to high, or where that range ends, of an empty range low; minutes count to the end of 2099
 unfoldable pub listLeast : List (List ℕ) → ℕ → ℕ → ℕ
 listLeast fs low high = leastFrom (listHeld fs) (min high windowMinutes - low) low
 

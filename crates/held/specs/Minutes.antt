@@ -4,7 +4,6 @@ use mathlib.Core.List.{List}
 use mathlib.Core.Path.{_≡_}
 use Prim.Native.Nat.{ℕ, _-_, _/_, _%_, _<_, _≤_, min}
 use lib.Dec.{eqb}
-use lib.ListN.{getD}
 use Rattle.calendar.specs.Below.{leastFrom, lastFrom}
 use Rattle.frames.specs.Cron.{cronTime, cronHeld}
 use Rattle.frames.specs.Numbers.{cronOf, ruleOf, dayHeld, minuteIn, startIn}
@@ -19,7 +18,7 @@ frameHeld l m =
     (cond (isKind ruleKind l) (ruleHeld (ruleOf l) m)
     (cond (isKind extraKind l) (eqb m (minuteIn l)) false))
 
--- the least held minute from low up to high, or where that range ends; minutes count to the end of 2099
+-- the least held minute from low up to high, or where that range ends, of an empty range low; minutes count to the end of 2099
 unfoldable pub leastMinute : List ℕ → ℕ → ℕ → ℕ
 leastMinute l low high = leastFrom (frameHeld l) (min high windowMinutes - low) low
 

@@ -12,12 +12,11 @@ use calendar::num::larger;
 use calendar::num::lesser;
 use calendar::window;
 use calendar::window::DAY;
+use calendar::window::LAST_OF_DAY;
 use days::ranges;
 use frames::kinds;
 use frames::places;
 use frames::places::Row;
-
-const LAST_OF_DAY: u64 = DAY - 1;
 
 // The least minute from low up to high, where `time` is the first time of day from low's own on.
 fn from_time(f: &Row, low: u64, time: u64, high: u64) -> u64

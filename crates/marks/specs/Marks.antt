@@ -6,6 +6,7 @@ use lib.Dec.{eqb}
 use lib.IntN.{ℤ, pos, negsuc}
 use Rattle.calendar.specs.Below.{everyBelow}
 use Rattle.calendar.specs.Calendar.{weekdayOfDay}
+use Rattle.calendar.specs.Window.{dayMinutes}
 use Rattle.compile.specs.Compiled.{lastOf, compiledFrames}
 use Rattle.evandrusk.specs.Answers.{dayOfDateAnswer, isoOfDayAnswer}
 use Rattle.plan.specs.Plan.{planHeld}
@@ -50,7 +51,7 @@ lastOfRule (z ∷ f ∷ fs) = elim f [
 unfoldable pub alike : List Form → ℕ → ℕ → Bool
 alike fs k m =
     let frames = compiledFrames fs in
-    everyBelow (λ d. Bool·beq (sheetHeld fs (m + 1440 * d)) (planHeld frames (m + 1440 * d))) k
+    everyBelow (λ d. Bool·beq (sheetHeld fs (m + dayMinutes * d)) (planHeld frames (m + dayMinutes * d))) k
 
 -- (a) "1970-01-01 is 0"
 unfoldable pub markA : Bool

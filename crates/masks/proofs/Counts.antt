@@ -1,14 +1,14 @@
 -- How many bits are set: the count of the digits.
 use mathlib.Core.Bool.{Bool, false, cond}
 use mathlib.Core.Path.{_≡_, refl, sym, ap, ap₂, _∙_, subst}
-use Prim.Native.Nat.{ℕ, zero, suc, _+_, _-_, _/_, _%_, _^_, _<_, _≤_, min}
-use native.Mathlib.Nat.{add-zero, mod-lt, le-of-lt, pow-succ', min-eq-left, min-eq-right}
+use Prim.Native.Nat.{ℕ, zero, suc, _+_, _-_, _/_, _^_, _<_, _≤_, min}
+use native.Mathlib.Nat.{add-zero, pow-succ'}
 use native.Mathlib.Omega.{arith}
 use lib.Count.{ones, ones-step}
-use lib.Pow.{pow-pos, shr-lt}
+use lib.Pow.{shr-lt}
 use Rattle.calendar.specs.Below.{countFrom}
 use Rattle.masks.specs.Masks.{bit, bitsFrom, bitsBelow}
-use Rattle.masks.proofs.Bits.{bit-of-quotient, bit-of-rest}
+use Rattle.masks.proofs.Bits.{bit-of-quotient}
 use Rattle.masks.proofs.MaskFroms.{digit-at-most, digit-number}
 
 -- tests that agree on the numbers count alike
@@ -66,17 +66,6 @@ bits-from-shifted m n h l =
 pub bits-from-past : (m n : ℕ) → 64 ≤ n → bitsFrom m n ≡ 0
 unfolding bitsFrom
 bits-from-past m n h = let e : 64 - n ≡ 0 = omega arith in rw e refl
-
-pub bits-below-cut : (m n : ℕ) → n < 64 → ones (m % 2 ^ n) ≡ bitsBelow m n
-unfolding bitsBelow
-bits-below-cut m n h =
-    rw (min-eq-left (le-of-lt h))
-    (sym (count-ones n (m % 2 ^ n) (mod-lt m (pow-pos n)))
-    ∙ count-same (bit (m % 2 ^ n)) (bit m) n 0 (λ j a b. bit-of-rest m n j (omega arith)))
-
-pub bits-below-whole : (m n : ℕ) → m < 2 ^ 64 → 64 ≤ n → ones m ≡ bitsBelow m n
-unfolding bitsBelow
-bits-below-whole m n h l = rw (min-eq-right l) (sym (count-ones 64 m h))
 
 -- one bit more
 pub bits-below-next : (m n : ℕ) → n < 64 → bitsBelow m (n + 1) ≡ bitsBelow m n + cond (bit m n) 1 0

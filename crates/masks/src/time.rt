@@ -6,8 +6,7 @@ use crate::next_bit;
 use crate::previous_bit;
 use crate::test;
 use calendar::window::DAY;
-
-const LAST_MINUTE: u64 = DAY - 1;
+use calendar::window::LAST_OF_DAY;
 
 // The least held minute from the start of an hour on.
 fn from_hour(hours: u64, minutes: u64, hour: u64) -> u64
@@ -44,7 +43,7 @@ fn before_hour(hours: u64, minutes: u64, hour: u64) -> u64
 pub fn next_time(hours: u64, minutes: u64, t: u64) -> u64
     ensures { λ r. ⌜ r ≡ nextTime hours minutes t ⌝ }
 {
-    if LAST_MINUTE < t {
+    if LAST_OF_DAY < t {
         return DAY;
     }
     if test(hours, t / 60) {
@@ -60,7 +59,7 @@ pub fn next_time(hours: u64, minutes: u64, t: u64) -> u64
 pub fn last_time(hours: u64, minutes: u64, t: u64) -> u64
     ensures { λ r. ⌜ r ≡ lastTime hours minutes t ⌝ }
 {
-    if LAST_MINUTE < t {
+    if LAST_OF_DAY < t {
         return before_hour(hours, minutes, 24);
     }
     if test(hours, t / 60) {

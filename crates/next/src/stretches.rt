@@ -14,7 +14,8 @@ use held::lists::list_last;
 use held::lists::list_least;
 use zone::BIASES;
 
-const LAST_BIAS: u64 = BIASES - 1;
+// The last minute below an end, moved up: the end is one more than it.
+const BIASES_LESS_ONE: u64 = BIASES - 1;
 
 // The first minute from `from` on whose instant is later than `instant`.
 fn first_after(offset: u64, from: u64, instant: u64) -> u64
@@ -79,5 +80,5 @@ pub(crate) fn stretch_previous(
     if past <= low {
         return best;
     }
-    past + LAST_BIAS - offset
+    past + BIASES_LESS_ONE - offset
 }

@@ -4,9 +4,9 @@ use mathlib.Core.List.{List, [], _∷_}
 use Prim.Native.Nat.{ℕ, _+_, _*_, _^_}
 use lib.Dec.{eqb}
 use Rattle.calendar.specs.Below.{everyBelow, countFrom}
-use Rattle.calendar.specs.Window.{localDate, localWeekday}
+use Rattle.calendar.specs.Window.{localDate, localWeekday, dayMinutes, windowLast}
 use Rattle.lines.specs.Bytes.{bytes}
-use Rattle.zone.specs.Zone.{instantOf}
+use Rattle.zone.specs.Zone.{bias, instantOf}
 use Rattle.plan.specs.Plan.{planHeld, planZone}
 use Rattle.plan.specs.Taken.{Loaded, taken, refused, load}
 use Rattle.plan.specs.declared.Frame.{Frame}
@@ -21,20 +21,20 @@ example = framesOf (load (bytes "01003C\n0200D2963C0078\n0200D7337C003C\n0300000
 
 -- local day 9,497 is 2026-01-01
 abbrev pub minute : ℕ → ℕ → ℕ → ℕ
-minute dayOf2026 hour m = 1440 * (9497 + dayOf2026) + (60 * hour + m)
+minute dayOf2026 hour m = dayMinutes * (9497 + dayOf2026) + (60 * hour + m)
 
 abbrev pub heldDays : List Frame → ℕ → ℕ → ℕ
-heldDays fs k m = countFrom (λ d. planHeld fs (m + 1440 * d)) k 0
+heldDays fs k m = countFrom (λ d. planHeld fs (m + dayMinutes * d)) k 0
 
 -- (h), (i): 29 March is day 87 of 2026 counted from 0, 25 October day 297
 unfoldable pub caseExample : Bool
 unfolding example
 caseExample =
     planHeld example (minute 87 2 30)
-    && (eqb (instantOf (planZone example) (minute 87 2 30)) (13801050 + 1440)
+    && (eqb (instantOf (planZone example) (minute 87 2 30)) (13801050 + bias)
     && (planHeld example (minute 297 2 30)
-    && (eqb (instantOf (planZone example) (minute 297 2 30)) (14103390 + 1440)
-    && eqb (countFrom (planHeld example) 1440 (minute 297 0 0)) 1)))
+    && (eqb (instantOf (planZone example) (minute 297 2 30)) (14103390 + bias)
+    && eqb (countFrom (planHeld example) dayMinutes (minute 297 0 0)) 1)))
 
 -- (j): the 31st of a month at 06:00 until 31 May, of the days of 2026 and 2027
 unfoldable pub thirds : List Frame
@@ -66,7 +66,7 @@ workdays =
       frequency = 3;
       interval = 1;
       start = 13717800;
-      last = 52595999;
+      last = windowLast;
       weekdays = 62;
       days = record { front = 0; back = 0 };
       ordinals = record { front = 0; back = 0 };
@@ -90,5 +90,5 @@ caseFridays =
     everyBelow
     (λ k.
     let d = 9497 + k in
-    Bool·beq (planHeld fridays (1440 * d)) (eqb (localDate d .day) 13 || eqb (localWeekday d) 5))
+    Bool·beq (planHeld fridays (dayMinutes * d)) (eqb (localDate d .day) 13 || eqb (localWeekday d) 5))
     365

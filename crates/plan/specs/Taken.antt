@@ -13,7 +13,7 @@ use Rattle.frames.specs.declared.Rule.{Rule}
 use Rattle.lines.specs.Lines.{linesOf}
 use Rattle.masks.specs.Masks.{bit}
 use Rattle.zone.specs.Zone.{offsetInRange, underLimits, inWindow, inRange, mostChanges, distance}
-use Rattle.frames.specs.Kinds.{isDaily, isWeekly, isMonthly}
+use Rattle.frames.specs.Kinds.{mostFrames, isDaily, isWeekly, isMonthly}
 use Rattle.plan.specs.Text.{lineFrame}
 use Rattle.plan.specs.declared.Frame.{Frame}
 
@@ -110,12 +110,12 @@ place lines (Frame.End n) = some lines
 
 -- "at most 64 before the end frame, its number right": n frames stand before
 unfoldable pub numberGood : ℕ → Frame → Bool
-numberGood n (Frame.Offset o) = ltb n 64
-numberGood n (Frame.Change t) = ltb n 64
-numberGood n (Frame.Cron f) = ltb n 64
-numberGood n (Frame.Rule f) = ltb n 64
-numberGood n (Frame.Extra m) = ltb n 64
-numberGood n (Frame.Excepted m) = ltb n 64
+numberGood n (Frame.Offset o) = ltb n mostFrames
+numberGood n (Frame.Change t) = ltb n mostFrames
+numberGood n (Frame.Cron f) = ltb n mostFrames
+numberGood n (Frame.Rule f) = ltb n mostFrames
+numberGood n (Frame.Extra m) = ltb n mostFrames
+numberGood n (Frame.Excepted m) = ltb n mostFrames
 numberGood n (Frame.End k) = eqb k n
 
 abbrev pub isEnd : Frame → Bool

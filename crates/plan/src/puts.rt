@@ -15,9 +15,9 @@ use zone::Transition;
 pub(crate) const TWO_BYTES: u64 = 65536;
 // The numbers of four bytes.
 pub(crate) const FOUR_BYTES: u64 = 4294967296;
-// An offset moved down by a day.
+// What added to an offset moves it down by a day.
 const OFFSET_DOWN: u64 = TWO_BYTES - zone::BIAS;
-// An instant moved down by a day.
+// What added to an instant moves it down by a day.
 const INSTANT_DOWN: u64 = FOUR_BYTES - zone::BIAS;
 
 // The bytes of the line without its LF.

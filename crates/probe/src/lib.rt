@@ -39,7 +39,7 @@ pub extern "C" fn probe_instant_of_local(zone: Zone, m: u64) -> ProbeInstant
     ProbeInstant { number: 0, instant }
 }
 
-// The least held local minute of frames in a range, or the range's end.
+// The least held local minute of frames in a range, or the range's end; of an empty range low.
 #[no_mangle]
 pub extern "C" fn probe_list_least(fs: &Rows, count: usize, low: u64, high: u64) -> u64
     ensures { λ r. ⌜ r ≡ listLeast (firstOf count (now (fs .entry))) low high ⌝ }

@@ -5,9 +5,9 @@ use Prim.Native.Nat.{ℕ, _+_, _*_}
 use Prim.Native.String.{String}
 use lib.Dec.{eqb}
 use Rattle.calendar.specs.Below.{everyBelow, countFrom}
-use Rattle.calendar.specs.Window.{localDate, localWeekday}
+use Rattle.calendar.specs.Window.{localDate, localWeekday, dayMinutes}
 use Rattle.lines.specs.Bytes.{bytes}
-use Rattle.zone.specs.Zone.{instantOf}
+use Rattle.zone.specs.Zone.{bias, instantOf}
 use Rattle.sheet.specs.Form.{Form}
 use Rattle.sheet.specs.Meaning.{sheetHeld, sheetZone}
 use Rattle.sheet.specs.Range.{minuteOf}
@@ -27,11 +27,11 @@ minute y mo d h mi = minuteOf (record { year = y; month = mo; day = d; hour = h;
 
 -- a sheet holds a local minute, and it becomes this instant
 abbrev pub isInstant : List Form → ℕ → ℕ → Bool
-isInstant fs m i = sheetHeld fs m && eqb (instantOf (sheetZone fs) m) (i + 1440)
+isInstant fs m i = sheetHeld fs m && eqb (instantOf (sheetZone fs) m) (i + bias)
 
 -- how many of the k local minutes from m on, a day apart, are held
 abbrev pub heldDays : List Form → ℕ → ℕ → ℕ
-heldDays fs k m = countFrom (λ d. sheetHeld fs (m + 1440 * d)) k 0
+heldDays fs k m = countFrom (λ d. sheetHeld fs (m + dayMinutes * d)) k 0
 
 unfoldable pub example : List Form
 example = sheet "Z +0100\nT 20260329T0100 +0200\nT 20261025T0100 +0100\nC 30 2 * * *\n"
@@ -55,7 +55,7 @@ unfoldable pub caseI : Bool
 unfolding example
 caseI =
     isInstant example (minute 2026 10 25 2 30) 14103390
-    && eqb (countFrom (sheetHeld example) 1440 (minute 2026 10 25 0 0)) 1
+    && eqb (countFrom (sheetHeld example) dayMinutes (minute 2026 10 25 0 0)) 1
 
 -- (j) "31 January, March, May": those of the days of 2026 and 2027 and no other
 unfoldable pub caseJ : Bool
@@ -80,7 +80,7 @@ caseL k from =
     everyBelow
     (λ e.
     let d = from + e in
-    Bool·beq (sheetHeld fridays (1440 * d)) (eqb (localDate d .day) 13 || eqb (localWeekday d) 5))
+    Bool·beq (sheetHeld fridays (dayMinutes * d)) (eqb (localDate d .day) 13 || eqb (localWeekday d) 5))
     k
 
 -- "`1-31` is restricted": with Fridays it holds every day of a year

@@ -12,7 +12,7 @@ const DAY_BIAS: i64 = 719162;
 // The days of the range; counted from 0001-01-01, the first day outside.
 pub const DAYS: u64 = 3652059;
 // The last day of the range, so counted.
-const LAST: u64 = DAYS - 1;
+pub const LAST: u64 = DAYS - 1;
 // An instant is moved up by a day.
 const INSTANT_BIAS: i64 = 1440;
 // The earliest instant that is told apart from those before it.

@@ -72,9 +72,13 @@ mostChanges = 32
 abbrev pub distance : ℕ
 distance = 2880
 
+-- "the new offset differs from the old by 1 to 180 minutes"
+abbrev pub mostChange : ℕ
+mostChange = 180
+
 -- "Each at least 2,880 minutes after the one before; the new offset differs from the old by 1 to 180 minutes": `low` is the least instant allowed
 unfoldable pub underLimits : ℕ → ℕ → Transition → Bool
-underLimits low offset t = leb low (t .at) && within 1 180 (apart offset (t .offset))
+underLimits low offset t = leb low (t .at) && within 1 mostChange (apart offset (t .offset))
 
 -- instants 0 to 52,595,999, offsets in range, and the limits, of transitions that follow each other
 unfoldable pub transitionsGood : ℕ → ℕ → List Transition → Bool

@@ -1,6 +1,6 @@
 // What transitions are held to: instants of the window, offsets in range, and the limits of one after another.
 ghost use mathlib.Core.Path.{_≡_};
-ghost use Rattle.zone.specs.Zone.{apart, offsetInRange, inRange, underLimits};
+ghost use Rattle.zone.specs.Zone.{apart as apartBy, offsetInRange, inRange, underLimits};
 use crate::Transition;
 use calendar::num::lies_within;
 
@@ -18,8 +18,8 @@ pub const DISTANCE: u64 = 2880;
 const MOST_CHANGE: u64 = 180;
 
 // How far apart two offsets are.
-fn distance(a: u64, b: u64) -> u64
-    ensures { λ r. ⌜ r ≡ apart a b ⌝ }
+fn apart(a: u64, b: u64) -> u64
+    ensures { λ r. ⌜ r ≡ apartBy a b ⌝ }
 {
     if a < b { b - a } else { a - b }
 }
@@ -47,5 +47,5 @@ pub fn under_limits(low: u64, offset: u64, change: Transition) -> bool
     if change.at < low {
         return false;
     }
-    lies_within(1, MOST_CHANGE, distance(offset, change.offset))
+    lies_within(1, MOST_CHANGE, apart(offset, change.offset))
 }

@@ -14,7 +14,7 @@ use calendar::num::fewer;
 use calendar::window;
 
 // The end of the window as the sum of an instant and its offset.
-const LAST_SUM: u64 = window::MINUTES + BIASES;
+const END_SUM: u64 = window::MINUTES + BIASES;
 
 // The instant of a local minute, or that it is outside the window.
 pub enum Instant {
@@ -27,14 +27,14 @@ pub fn end_before(before: u64, change: Transition) -> u64
     ensures { λ r. ⌜ r ≡ boundary before change ⌝ }
 {
     let offset = calendar::num::larger(before, change.offset);
-    if LAST_SUM < change.at {
+    if END_SUM < change.at {
         return window::MINUTES;
     }
-    if LAST_SUM < offset {
+    if END_SUM < offset {
         return window::MINUTES;
     }
     let end = change.at + offset;
-    if LAST_SUM < end {
+    if END_SUM < end {
         return window::MINUTES;
     }
     if end < BIASES {
