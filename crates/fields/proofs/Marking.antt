@@ -1,0 +1,110 @@
+-- Elements marked one after the other.
+use mathlib.Core.Bool.{Bool, true, false, cond}
+use mathlib.Core.List.{List}
+use mathlib.Core.Option.{Option, none, some}
+use mathlib.Core.Path.{_≡_, refl, sym, ap, _∙_}
+use Prim.Native.Nat.{ℕ, zero, suc, _+_, _-_, _<_, _≤_}
+use native.Mathlib.Omega.{arith}
+use borrow.Author.Tests.{eq-eqb}
+use lib.Dec.{eqb}
+use lib.ListN.{getD, drop}
+use Rattle.calendar.specs.Below.{within}
+use Rattle.sheet.specs.Form.{Element as Form, one, range}
+use Rattle.words.specs.Lists.{before, listAt}
+use Rattle.words.specs.Reads.{digitsIn, cursor, numberAt}
+use Rattle.words.specs.declared.cursor.Cursor.{Cursor}
+use Rattle.words.specs.declared.cursor.Number.{Number}
+use Rattle.fields.specs.Elements.{rangeFrom, elementFrom, elementAt, elementRead}
+use Rattle.fields.specs.Marked.{marksOf, elementMarks, marksOver, elementsAt, listedAs}
+use Rattle.fields.specs.declared.element.Element.{Element}
+use Rattle.fields.specs.declared.list.Listed.{Listed}
+use Rattle.fields.specs.declared.marks.Marks.{Marks}
+
+-- ---- the place after what was read is none before it
+number-after : (s : List ℕ) (at v : ℕ) (c : Cursor) → numberAt s at ≡ Number.Is v c → at ≤ c .at
+unfolding numberAt
+number-after s at v c e = by-range (within 1 4 (digitsIn (drop at s))) _ (at + digitsIn (drop at s)) (omega arith) e
+  where
+    placeOf : Number → ℕ
+    placeOf (Number.Is w d) = d .at
+    placeOf Number.Not = 0
+
+    by-range : (b : Bool) (w f : ℕ) → at ≤ f → cond b (Number.Is w (cursor f)) Number.Not ≡ Number.Is v c → at ≤ c .at
+    by-range true w f h e = omega (arith, ap placeOf e)
+    by-range false w f h e = let z : _≡_ {A = ℕ} 0 1 = cc in absurd (omega arith)
+
+-- what an element is read as
+pub record Read (low high : ℕ) (m : Marks) (x : Element) (marks : Marks) (c : Cursor) : Type 0 where
+  pub form : Form
+  pub read : elementRead x ≡ some (form, c .at)
+  pub marked : marks ≡ marksOf low high m form
+
+marksIn : Listed → Marks → Marks
+marksIn (Listed.Is n d) m = n
+marksIn Listed.Not m = m
+
+cursorIn : Listed → Cursor
+cursorIn (Listed.Is n d) = d
+cursorIn Listed.Not = cursor 0
+
+module _ (low high : ℕ) (m : Marks) where
+  pub marks-not : (x : Element) → elementMarks low high m x ≡ Listed.Not → elementRead x ≡ none
+  marks-not (Element.One n c) e = let z : _≡_ {A = ℕ} 0 1 = cc in absurd (omega arith)
+  marks-not (Element.Range a b c) e = let z : _≡_ {A = ℕ} 0 1 = cc in absurd (omega arith)
+  marks-not Element.Not e = refl
+
+  pub marks-is : (x : Element) (marks : Marks) (c : Cursor) → elementMarks low high m x ≡ Listed.Is marks c → Read low high m x marks c
+  unfolding marksOf marksIn cursorIn
+  marks-is (Element.One n d) marks c e =
+      record { form = one n; read = ap (λ (k : Cursor). some (one n, k .at)) (ap cursorIn e); marked = sym (ap (λ (l : Listed). marksIn l m) e) }
+  marks-is (Element.Range a b d) marks c e =
+      record { form = range a b; read = ap (λ (k : Cursor). some (range a b, k .at)) (ap cursorIn e); marked = sym (ap (λ (l : Listed). marksIn l m) e) }
+  marks-is Element.Not marks c e = let z : _≡_ {A = ℕ} 0 1 = cc in absurd (omega arith)
+
+listed-before : (low high : ℕ) (m : Marks) (f : Form) (o : Option (List Form × ℕ)) → listedAs low high m (before f o) ≡ listedAs low high (marksOf low high m f) o
+unfolding marksOver
+listed-before low high m f none = refl
+listed-before low high m f (some r) = refl
+
+-- ---- the list from a place on
+module _ (s : List ℕ) (low high : ℕ) (m : Marks) (at : ℕ) where
+  pub list-not : (left : ℕ) → elementRead (elementAt s at) ≡ none → Listed.Not ≡ listedAs low high m (elementsAt s left at)
+  unfolding elementsAt listAt
+  list-not zero e = refl
+  list-not (suc left) e = rw (listAt, e) refl
+
+  module _ (marks : Marks) (c : Cursor) (r : Read low high m (elementAt s at) marks c) where
+    pub list-last : (left : ℕ) → 0 < left → eqb (getD s (c .at) 0) 44 ≡ false → Listed.Is marks c ≡ listedAs low high m (elementsAt s left at)
+    unfolding elementsAt listAt marksOver
+    list-last zero h f = absurd (omega arith)
+    list-last (suc left) h f = rw (listAt, r .read, f, r .marked) refl
+
+    pub list-next : (left : ℕ) → 0 < left → getD s (c .at) 0 ≡ 44 → listedAs low high marks (elementsAt s (left - 1) (c .at + 1)) ≡ listedAs low high m (elementsAt s left at)
+    unfolding elementsAt listAt
+    list-next zero h f = absurd (omega arith)
+    list-next (suc left) h f =
+        let n : suc left - 1 ≡ left = omega arith in
+        let step : elementsAt s (suc left) at ≡ before (r .form) (elementsAt s left (c .at + 1)) = rw (listAt, r .read, eq-eqb _ _ f) refl in
+        rw (n, r .marked) (sym (ap (listedAs low high m) step ∙ listed-before low high m (r .form) (elementsAt s left (c .at + 1))))
+
+-- ---- the place after an element
+placeIn : Option (Form × ℕ) → ℕ
+placeIn none = 0
+placeIn (some r) = r .1
+
+range-after : (s : List ℕ) (at n : ℕ) (x : Number) → numberAt s at ≡ x → (f : Form) (e : ℕ) → elementRead (rangeFrom n x) ≡ some (f, e) → at ≤ e
+unfolding placeIn
+range-after s at n (Number.Is v c) g f e q = omega (arith, number-after s at v c g, ap placeIn q)
+range-after s at n Number.Not g f e q = let z : _≡_ {A = ℕ} 0 1 = cc in absurd (omega arith)
+
+pub place-after : (s : List ℕ) (at : ℕ) (f : Form) (e : ℕ) → elementRead (elementAt s at) ≡ some (f, e) → at ≤ e
+unfolding elementAt placeIn
+place-after s at f e q = by-number (numberAt s at) refl q
+  where
+    by-number : (x : Number) → numberAt s at ≡ x → elementRead (elementFrom s x) ≡ some (f, e) → at ≤ e
+    by-number Number.Not g q = let z : _≡_ {A = ℕ} 0 1 = cc in absurd (omega arith)
+    by-number (Number.Is v c) g q = by-dash (eqb (getD s (c .at) 0) 45) q
+      where
+        by-dash : (b : Bool) → elementRead (cond b (rangeFrom v (numberAt s (c .at + 1))) (Element.One v c)) ≡ some (f, e) → at ≤ e
+        by-dash true q = omega (arith, number-after s at v c g, range-after s (c .at + 1) v (numberAt s (c .at + 1)) refl f e q)
+        by-dash false q = omega (arith, number-after s at v c g, ap placeIn q)

@@ -1,0 +1,4 @@
+-- Cron fields, read at a place.
+pub mod Elements
+pub mod Marked
+pub mod Fields

@@ -1,0 +1,3 @@
+// Pieces of a sheet line, read at a cursor: numbers, signs, times, offsets and words.
+pub mod cursor;
+mod digits;
