@@ -1,9 +1,7 @@
 -- Opens every definition of the crate and of those below it at once, for the files that compute them.
-use Rattle.sheet.specs.Open.{opened as sheet-opened}
-use Rattle.plan.specs.Open.{opened as plan-opened}
-use Rattle.masks.specs.Open.{opened as masks-opened}
-use Rattle.compile.specs.Compiled.{cronFrame, lastOf, ruleFrame, frameOf, compiledFrames, compiledText, compile}
+use Rattle.framed.specs.Open.{opened as framed-opened}
+use Rattle.compile.specs.Compiled.{compiledFrames, compiledText, compile}
 
 unfoldable pub opened : Unit {0}
-unfolding sheet-opened plan-opened masks-opened cronFrame lastOf ruleFrame frameOf compiledFrames compiledText compile
+unfolding framed-opened compiledFrames compiledText compile
 opened = tt

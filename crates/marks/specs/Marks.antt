@@ -7,7 +7,8 @@ use lib.IntN.{ℤ, pos, negsuc}
 use Rattle.calendar.specs.Below.{everyBelow}
 use Rattle.calendar.specs.Calendar.{weekdayOfDay}
 use Rattle.calendar.specs.Window.{dayMinutes}
-use Rattle.compile.specs.Compiled.{lastOf, compiledFrames}
+use Rattle.compile.specs.Compiled.{compiledFrames}
+use Rattle.framed.specs.Framed.{lastOf}
 use Rattle.evandrusk.specs.Answers.{dayOfDateAnswer, isoOfDayAnswer}
 use Rattle.plan.specs.Plan.{planHeld}
 use Rattle.sheet.specs.Cases.{minute, thirds, workdays, caseH, caseI, caseJ, caseK, caseL}

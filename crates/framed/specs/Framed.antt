@@ -1,0 +1,113 @@
+-- The frame of a sheet line: "one frame for each sheet line".
+use mathlib.Core.Bool.{Bool, true, false, cond, not, _&&_}
+use mathlib.Core.List.{List}
+use mathlib.Core.Option.{Option, none, some, Option·getD}
+use Prim.Native.Nat.{ℕ, _+_, _-_, _*_, _/_, _%_, _^_}
+use lib.Dec.{ltb, eqb}
+use Rattle.calendar.specs.Below.{anyOf}
+use Rattle.calendar.specs.Window.{localDate, localWeekday, dayMinutes, windowDays, windowLast}
+use Rattle.days.specs.Search.{nthFrom}
+use Rattle.frames.specs.declared.Cron.{Cron}
+use Rattle.frames.specs.declared.Ends.{Ends}
+use Rattle.frames.specs.declared.Rule.{Rule}
+use Rattle.masks.specs.Masks.{maskFrom}
+use Rattle.plan.specs.declared.Frame.{Frame}
+use Rattle.sheet.specs.Form.{Field, Entry, plain, ordinal, Frequency, daily, weekly, monthly, Form, zone, change, cron, rule, extra, except}
+use Rattle.sheet.specs.Meaning.{fieldHas, restricted, occursOn}
+use Rattle.sheet.specs.Parts.{Given, givenOf}
+use Rattle.sheet.specs.Range.{minuteOf, instantOfTime, offsetOfShift}
+use Rattle.sheet.specs.Words.{Signed}
+
+-- "flags 1 (bit 0 day of month restricted, bit 1 day of week restricted)"
+unfoldable pub cronFrame : Field → Field → Field → Field → Field → Cron
+cronFrame m h d mo w =
+    record {
+      minutes = maskFrom (fieldHas m) 60 0;
+      hours = maskFrom (fieldHas h) 24 0;
+      days = maskFrom (fieldHas d) 31 1;
+      months = maskFrom (fieldHas mo) 12 1;
+      weekdays = maskFrom (fieldHas w) 7 0;
+      flags = cond (restricted d) 1 0 + cond (restricted w) 2 0;
+    }
+
+-- numbers of a signed list, "bit n from the end for −n"
+unfoldable pub endsOf : List Signed → Ends
+endsOf ns =
+    record {
+      front = maskFrom (λ n. anyOf (λ s. not (s .minus) && eqb (s .number) n) ns) 31 1;
+      back = maskFrom (λ n. anyOf (λ s. s .minus && eqb (s .number) n) ns) 31 1;
+    }
+
+abbrev pub isPlain : ℕ → Entry → Bool
+isPlain w (plain v) = eqb v w
+isPlain w (ordinal n v) = false
+
+abbrev pub isOrdinal : Bool → ℕ → ℕ → Entry → Bool
+isOrdinal minus k w (plain v) = false
+isOrdinal minus k w (ordinal n v) = eqb v w && (eqb (n .number) k && cond minus (n .minus) (not (n .minus)))
+
+-- "ordinals 1..5 one weekday mask each"
+unfoldable pub ordinalsOf : Bool → List Entry → ℕ
+ordinalsOf minus es =
+    let mask : ℕ → ℕ = λ k. maskFrom (λ w. anyOf (isOrdinal minus k w) es) 7 0 in
+    256 ^ 4 * mask 1 + (256 ^ 3 * mask 2 + (256 ^ 2 * mask 3 + (256 * mask 4 + mask 5)))
+
+abbrev pub nothing : Ends
+nothing = record { front = 0; back = 0 }
+
+-- "Defaults of rule 2 are filled in": the start's weekday of a weekly rule, the start's day of month of a monthly one
+unfoldable pub weekdaysOf : Frequency → Option (List Entry) → ℕ → ℕ
+weekdaysOf f (some es) first = maskFrom (λ w. anyOf (isPlain w) es) 7 0
+weekdaysOf daily none first = 0
+weekdaysOf weekly none first = 2 ^ localWeekday first
+weekdaysOf monthly none first = 0
+
+unfoldable pub daysOf : Frequency → Given → ℕ → Ends
+daysOf daily g first = elim (g .monthDays) [ none ↦ nothing | some ns ↦ endsOf ns ]
+daysOf weekly g first = nothing
+daysOf monthly g first =
+    elim (g .monthDays) [
+      | none ↦ elim (g .days) [ none ↦ record { front = 2 ^ localDate first .day; back = 0 } | some es ↦ nothing ]
+      | some ns ↦ endsOf ns
+    ]
+
+-- "*Last* is UNTIL, or the COUNT-th occurrence's local minute, or 52,595,999 if there is neither or fewer occurrences exist."
+unfoldable pub lastOf : Given → ℕ → ℕ
+lastOf g start =
+    let first = start / dayMinutes in
+    elim (g .until) [
+      | some t ↦ minuteOf t
+      | none ↦ elim (g .count) [
+        | none ↦ windowLast
+        | some c ↦ let d = nthFrom (occursOn (Option·getD (g .frequency) daily) g first) c (windowDays - first) first in
+            cond (ltb d windowDays) (dayMinutes * d + start % dayMinutes) windowLast
+      ]
+    ]
+
+abbrev pub frequencyNumber : Frequency → ℕ
+frequencyNumber daily = 1
+frequencyNumber weekly = 2
+frequencyNumber monthly = 3
+
+unfoldable pub ruleFrame : Given → ℕ → Rule
+ruleFrame g start =
+    let f = Option·getD (g .frequency) daily in
+    let first = start / dayMinutes in
+    record {
+      frequency = frequencyNumber f;
+      interval = Option·getD (g .interval) 1;
+      start = start;
+      last = lastOf g start;
+      weekdays = weekdaysOf f (g .days) first;
+      days = daysOf f g first;
+      ordinals = elim (g .days) [ none ↦ nothing | some es ↦ record { front = ordinalsOf false es; back = ordinalsOf true es } ];
+      positions = elim (g .positions) [ none ↦ nothing | some ns ↦ endsOf ns ];
+    }
+
+unfoldable pub frameOf : Form → Frame
+frameOf (zone s) = Frame.Offset (offsetOfShift s)
+frameOf (change t s) = Frame.Change (record { at = instantOfTime t; offset = offsetOfShift s })
+frameOf (cron m h d mo w) = Frame.Cron (cronFrame m h d mo w)
+frameOf (rule t ps) = Frame.Rule (ruleFrame (givenOf ps) (minuteOf t))
+frameOf (extra t) = Frame.Extra (minuteOf t)
+frameOf (except t) = Frame.Excepted (minuteOf t)

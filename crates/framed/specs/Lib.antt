@@ -1,0 +1,3 @@
+-- The frame of a sheet line.
+pub mod Framed
+pub mod Open

@@ -1,0 +1,1 @@
+// The frame of a sheet line.
