@@ -1,0 +1,96 @@
+-- An ordinal weekday: its days within the month, counted from either end up to one of them, are one for every seven places.
+use mathlib.Core.Bool.{Bool, true, false, cond}
+use mathlib.Core.Path.{_≡_, refl, sym, ap, _∙_}
+use Prim.Native.Nat.{ℕ, zero, suc, _+_, _-_, _*_, _/_, _%_, _<_, _≤_}
+use native.Mathlib.Omega.{arith}
+use borrow.Author.Tests.{eqb-true, eqb-false}
+use lib.Dec.{eqb}
+use Rattle.calendar.proofs.Windows.{local-date-holds, month-days-range, month-first-next}
+use Rattle.calendar.specs.Below.{countFrom}
+use Rattle.calendar.specs.Calendar.{weekdayOf}
+use Rattle.calendar.specs.Window.{monthFirst, monthDays, localDate, localWeekday, fromEnd, windowDays}
+use Rattle.frames.proofs.MonthDays.{first-at-most}
+use Rattle.frames.specs.Rule.{ordinalOf}
+use Rattle.masks.proofs.Counts.{count-same, count-at-most}
+use Rattle.sheet.specs.Meaning.{upTo, fromOn}
+use Rattle.zone.proofs.Good.{by-order}
+
+abbrev pub isWeekday : ℕ → ℕ → Bool
+isWeekday w e = eqb (localWeekday e) w
+
+-- how many days of a weekday are before day n, and some more that are the same for every n
+abbrev before : ℕ → ℕ → ℕ
+before w n = (730126 + n - w) / 7
+
+next-before : (w n : ℕ) (b : Bool) → isWeekday w n ≡ b → w < 7 → cond b 1 0 + before w n ≡ before w (suc n)
+unfolding localWeekday weekdayOf
+next-before w n true e h = omega (arith, eqb-true ((730119 + n + 1) % 7) w e)
+next-before w n false e h = omega (arith, eqb-false ((730119 + n + 1) % 7) w e)
+
+weekdays-counted : (w k n : ℕ) → w < 7 → countFrom (isWeekday w) k n + before w n ≡ before w (n + k)
+weekdays-counted w zero n h = omega arith
+weekdays-counted w (suc k) n h =
+    let e : suc n + k ≡ n + suc k = omega arith in
+    omega (arith, next-before w n (isWeekday w n) refl h, weekdays-counted w k (suc n) h, ap (before w) e)
+
+-- of k days that start or end with the weekday
+starting : (w k n : ℕ) → 1 ≤ k → localWeekday n ≡ w → countFrom (isWeekday w) k n ≡ ordinalOf k
+unfolding localWeekday weekdayOf
+starting w k n l e = omega (arith, weekdays-counted w k n (omega arith))
+
+ending : (w k n : ℕ) → 1 ≤ k → localWeekday (n + (k - 1)) ≡ w → countFrom (isWeekday w) k n ≡ ordinalOf k
+unfolding localWeekday weekdayOf
+ending w k n l e = omega (arith, weekdays-counted w k n (omega arith))
+
+-- a day's place in its month, from the front or from the end
+abbrev pub placeOf : Bool → ℕ → ℕ
+placeOf minus d = cond minus (fromEnd d) (localDate d .day)
+
+pub place-low : (minus : Bool) (d : ℕ) → d < windowDays → 1 ≤ placeOf minus d
+unfolding fromEnd
+place-low true d h = let a = local-date-holds d h in omega (arith, a .high)
+place-low false d h = local-date-holds d h .low
+
+pub place-high : (minus : Bool) (d : ℕ) → d < windowDays → placeOf minus d ≤ 31
+unfolding fromEnd
+place-high true d h = let a = local-date-holds d h in omega (arith, a .low, month-days-range (localDate d .month) (a .last) .1)
+place-high false d h = let a = local-date-holds d h in omega (arith, a .high, month-days-range (localDate d .month) (a .last) .1)
+
+-- the days of the month up to d, or from d on, that pass a test
+abbrev pub counted : Bool → (ℕ → Bool) → ℕ → ℕ
+counted minus test d = cond minus (fromOn test d) (upTo test d)
+
+pub ordinal-counted : (minus : Bool) (d w : ℕ) → d < windowDays → localWeekday d ≡ w → counted minus (isWeekday w) d ≡ ordinalOf (placeOf minus d)
+ordinal-counted true d w h e = starting w (fromEnd d) d (place-low true d h) e
+ordinal-counted false d w h e =
+    let a = local-date-holds d h in
+    ending w (localDate d .day) (monthFirst (localDate d .month)) (a .low) (ap localWeekday (a .whole) ∙ e)
+
+-- where d passes it, it is one of them
+one-counted : (test : ℕ → Bool) (k n d : ℕ) → n ≤ d → d < n + k → test d ≡ true → 1 ≤ countFrom test k n
+one-counted test zero n d l h t = absurd (omega arith)
+one-counted test (suc k) n d l h t =
+    by-order n d (λ b. omega (arith, one-counted test k (suc n) d (omega arith) (omega arith) t))
+    (λ b. let e : test n ≡ true = ap test (omega arith) ∙ t in rw e (omega arith))
+
+pub counted-low : (minus : Bool) (test : ℕ → Bool) (d : ℕ) → d < windowDays → test d ≡ true → 1 ≤ counted minus test d
+counted-low true test d h t = one-counted test (fromEnd d) d d (omega arith) (omega (arith, place-low true d h)) t
+counted-low false test d h t =
+    let a = local-date-holds d h in
+    one-counted test (localDate d .day) (monthFirst (localDate d .month)) d (omega (arith, a .whole)) (omega (arith, a .whole, a .low)) t
+
+pub counted-high : (minus : Bool) (test : ℕ → Bool) (d : ℕ) → d < windowDays → counted minus test d ≤ 31
+counted-high true test d h = omega (arith, count-at-most test (fromEnd d) d, place-high true d h)
+counted-high false test d h = omega (arith, count-at-most test (localDate d .day) (monthFirst (localDate d .month)), place-high false d h)
+
+-- tests that agree on the window's days
+pub counted-same : (minus : Bool) (test other : ℕ → Bool) (d : ℕ) → d < windowDays → ((j : ℕ) → j < windowDays → test j ≡ other j) → counted minus test d ≡ counted minus other d
+unfolding fromEnd
+counted-same true test other d h e =
+    let a = local-date-holds d h in
+    let k : ℕ = localDate d .month in
+    let last : monthFirst k + monthDays k ≤ windowDays = omega (arith, month-first-next k (a .last), first-at-most (k + 1)) in
+    count-same test other (fromEnd d) d (λ j l b. e j (omega (arith, a .whole, a .low, a .high)))
+counted-same false test other d h e =
+    let a = local-date-holds d h in
+    count-same test other (localDate d .day) (monthFirst (localDate d .month)) (λ j l b. e j (omega (arith, a .whole, a .low)))

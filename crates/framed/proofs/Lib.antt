@@ -1,0 +1,6 @@
+-- The laws of the frame of a sheet line: it means what the line means.
+pub mod Counted
+pub mod Listed
+pub mod Ends
+pub mod Ordinals
+pub mod Crons
