@@ -4,3 +4,6 @@ pub mod Listed
 pub mod Ends
 pub mod Ordinals
 pub mod Crons
+pub mod Goods
+pub mod Sets
+pub mod Days

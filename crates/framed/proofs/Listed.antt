@@ -3,6 +3,7 @@ use mathlib.Core.Bool.{Bool, true, false, _&&_, _||_}
 use mathlib.Core.List.{List, [], _∷_}
 use mathlib.Core.Path.{_≡_, refl, ap₂, _∙_}
 use Rattle.calendar.specs.Below.{anyOf, allOf}
+use Rattle.frames.proofs.MonthSets.{both-true}
 
 -- there is an element, and every one passes the test
 abbrev pub listed : {A : Type 0} → (A → Bool) → List A → Bool
@@ -21,3 +22,16 @@ module _ {A : Type 0} (one other both : A → Bool) (same : (x : A) → (one x |
   pub any-either : (xs : List A) → (anyOf one xs || anyOf other xs) ≡ anyOf both xs
   any-either [] = refl
   any-either (x ∷ xs) = swapped (one x) (anyOf one xs) (other x) (anyOf other xs) ∙ ap₂ _||_ (same x) (any-either xs)
+
+-- what a list's elements pass, and what all of them pass
+module _ {A : Type 0} (one other both : A → Bool) (join : (x : A) → one x ≡ true → other x ≡ true → both x ≡ true) where
+  all-by : (xs : List A) → allOf one xs ≡ true → allOf other xs ≡ true → allOf both xs ≡ true
+  all-by [] e f = refl
+  all-by (x ∷ xs) e f =
+      let a = both-true (one x) (allOf one xs) e in
+      let b = both-true (other x) (allOf other xs) f in
+      rw (join x (a .0) (b .0)) (all-by xs (a .1) (b .1))
+
+  pub listed-by : (xs : List A) → listed one xs ≡ true → allOf other xs ≡ true → listed both xs ≡ true
+  listed-by [] e f = e
+  listed-by (x ∷ xs) e f = all-by (x ∷ xs) e f

@@ -1,0 +1,105 @@
+-- The days of a rule's frame are those of the rule, COUNT and UNTIL left out.
+use mathlib.Core.Bool.{Bool, true, false, cond, _&&_, _||_}
+use mathlib.Core.List.{List}
+use mathlib.Core.Option.{Option, none, some, Option·getD}
+use mathlib.Core.Path.{_≡_, refl, sym, ap, ap₂, _∙_}
+use Prim.Native.Nat.{ℕ, _-_, _/_, _%_, _<_, _≤_}
+use native.Mathlib.Omega.{arith}
+use lib.Dec.{leb, eqb}
+use Rattle.calendar.specs.Window.{localDate, localWeek, dayMinutes, windowDays, windowMinutes}
+use Rattle.frames.specs.Rule.{noLimit, monthDayAllowed, weekdayAllowed, inSet, placed, period, counts, ruleDay, ruleOccurs}
+use Rattle.frames.specs.declared.Ends.{Ends}
+use Rattle.frames.specs.declared.Rule.{Rule}
+use Rattle.masks.proofs.Bits.{decided}
+use Rattle.masks.specs.Masks.{bit}
+use Rattle.sheet.specs.Form.{Time, Part, Frequency, daily, weekly, monthly, rule}
+use Rattle.sheet.specs.Meaning.{allows, daySet, positionHas, periodOf, occursOn, occursAt}
+use Rattle.sheet.specs.Parts.{Given, givenOf}
+use Rattle.sheet.specs.Range.{dayNumberInRange, minuteOf, inRange}
+use Rattle.sheet.specs.Words.{Signed}
+use Rattle.framed.specs.Framed.{endsOf, ruleFrame, frequencyNumber}
+use Rattle.framed.proofs.Counted.{counted, counted-low, counted-high, counted-same}
+use Rattle.framed.proofs.Ends.{ends-hold, ends-limit}
+use Rattle.framed.proofs.Goods.{Good, givenPasses, written, rule-good}
+use Rattle.framed.proofs.Listed.{listed}
+use Rattle.framed.proofs.Sets.{Framed, positionsFor, in-set-is}
+
+module _ (r : Rule) (d : ℕ) where
+  any-place : noLimit (r .positions) ≡ true → placed r d ≡ true
+  unfolding placed
+  any-place n = rw (n, placed) refl
+
+  given-place : noLimit (r .positions) ≡ false → placed r d ≡ (bit (r .positions .front) (counted false (inSet r) d) || bit (r .positions .back) (counted true (inSet r) d))
+  unfolding placed
+  given-place n = rw (n, placed) refl
+
+module _ (f : Frequency) (g : Given) (first : ℕ) (r : Rule) (a : Framed f g first r) (good : Good g) where
+  counts-is : (d : ℕ) → counts r d ≡ eqb ((periodOf f d - periodOf f first) % Option·getD (g .interval) 1) 0
+  unfolding counts period
+  counts-is d = rw (a .start, a .interval, a .frequency) (by-frequency f)
+    where
+      by-frequency : (f : Frequency) → eqb ((cond (eqb (frequencyNumber f) 1) d (cond (eqb (frequencyNumber f) 2) (localWeek d) (localDate d .month)) - cond (eqb (frequencyNumber f) 1) first (cond (eqb (frequencyNumber f) 2) (localWeek first) (localDate first .month))) % Option·getD (g .interval) 1) 0 ≡ eqb ((periodOf f d - periodOf f first) % Option·getD (g .interval) 1) 0
+      by-frequency daily = refl
+      by-frequency weekly = refl
+      by-frequency monthly = refl
+
+  module _ (d : ℕ) (h : d < windowDays) where
+    place-is : (minus : Bool) → counted minus (inSet r) d ≡ counted minus (daySet f g first) d
+    place-is minus = counted-same minus (inSet r) (daySet f g first) d h (λ j l. in-set-is f g first r a good j l)
+
+    placed-is : (ns : Option (List Signed)) → r .positions ≡ positionsFor ns → givenPasses (listed dayNumberInRange) ns ≡ true → daySet f g first d ≡ true
+        → placed r d ≡ allows (positionHas f g first d) ns
+    unfolding positionHas
+    placed-is none e l t = any-place r d (ap noLimit e)
+    placed-is (some ns) e l t =
+        let set : ℕ → Bool = daySet f g first in
+        given-place r d (ap noLimit e ∙ ends-limit ns l)
+        ∙ ap (λ (p : Ends). bit (p .front) (counted false (inSet r) d) || bit (p .back) (counted true (inSet r) d)) e
+        ∙ ap₂ (λ (x y : ℕ). bit (endsOf ns .front) x || bit (endsOf ns .back) y) (place-is false) (place-is true)
+        ∙ ends-hold (counted false set d) (counted true set d) ns (counted-low false set d h t) (counted-high false set d h) (counted-low true set d h t) (counted-high true set d h)
+
+    set-placed : (inSet r d && placed r d) ≡ (daySet f g first d && allows (positionHas f g first d) (g .positions))
+    set-placed =
+        rw (in-set-is f g first r a good d h)
+        (decided (daySet f g first d)
+        (λ (t : daySet f g first d ≡ true). rw t (placed-is (g .positions) (a .positions) (good .positions) t))
+        (λ (n : daySet f g first d ≡ false). rw n refl))
+
+    pub day-is : ruleDay r d ≡ occursOn f g first d
+    unfolding ruleDay occursOn
+    day-is =
+        ap₂ _&&_ (ap (λ (x : ℕ). leb x d) (a .start)) (ap₂ _&&_ (counts-is d) set-placed)
+
+-- *last* is not read
+abbrev pub withLast : ℕ → Rule → Rule
+withLast l r =
+    record {
+      frequency = r .frequency;
+      interval = r .interval;
+      start = r .start;
+      last = l;
+      weekdays = r .weekdays;
+      days = r .days;
+      ordinals = r .ordinals;
+      positions = r .positions;
+    }
+
+pub day-with-last : (l : ℕ) (r : Rule) (d : ℕ) → ruleDay (withLast l r) d ≡ ruleDay r d
+unfolding ruleDay counts period inSet monthDayAllowed weekdayAllowed placed
+day-with-last l r d = refl
+
+pub frame-framed : (g : Given) (start : ℕ) → Framed (Option·getD (g .frequency) daily) g (start / dayMinutes) (ruleFrame g start)
+unfolding ruleFrame
+frame-framed g start =
+    record { frequency = refl; interval = refl; start = refl; weekdays = refl; days = refl; ordinals = refl; positions = refl }
+
+module _ (t : Time) (ps : List Part) (inside : inRange (rule t ps) ≡ true) (w : written (rule t ps) ≡ true) where
+  pub rule-day : (d : ℕ) → d < windowDays
+      → ruleDay (ruleFrame (givenOf ps) (minuteOf t)) d ≡ occursOn (Option·getD (givenOf ps .frequency) daily) (givenOf ps) (minuteOf t / dayMinutes) d
+  rule-day d h =
+      let g : Given = givenOf ps in
+      day-is (Option·getD (g .frequency) daily) g (minuteOf t / dayMinutes) (ruleFrame g (minuteOf t)) (frame-framed g (minuteOf t)) (rule-good t ps w inside) d h
+
+  pub rule-occurs : (m : ℕ) → m < windowMinutes → ruleOccurs (ruleFrame (givenOf ps) (minuteOf t)) m ≡ occursAt (givenOf ps) (minuteOf t) m
+  unfolding ruleOccurs occursAt ruleFrame
+  rule-occurs m h = ap (λ (b : Bool). b && eqb (m % dayMinutes) (minuteOf t % dayMinutes)) (rule-day (m / dayMinutes) (omega arith))

@@ -1,0 +1,81 @@
+-- What the laws ask of the parts of a rule: numbers in range, and lists as they can be written.
+use mathlib.Core.Bool.{Bool, true, false, _&&_}
+use mathlib.Core.List.{List, [], _∷_}
+use mathlib.Core.Option.{Option, none, some}
+use mathlib.Core.Path.{_≡_, refl}
+use Prim.Native.Nat.{ℕ}
+use lib.Dec.{leb, ltb}
+use Rattle.calendar.specs.Below.{allOf}
+use Rattle.frames.proofs.MonthSets.{both-true}
+use Rattle.sheet.specs.Form.{Time, Entry, Part, freq, interval, count, until, byDay, byMonthDay, bySetPos, Form, zone, change, cron, rule, extra, except}
+use Rattle.sheet.specs.Parts.{Given, givenOf}
+use Rattle.sheet.specs.Range.{entryInRange, dayNumberInRange, timeInRange, partInRange, inRange}
+use Rattle.sheet.specs.Words.{Signed}
+use Rattle.framed.proofs.Listed.{listed, listed-by}
+use Rattle.framed.proofs.Ordinals.{entryWeekday, entryGood}
+
+-- a list is never empty, and a weekday is one of the seven
+abbrev weekdayWritten : Entry → Bool
+weekdayWritten e = ltb (entryWeekday e) 7
+
+abbrev anySigned : Signed → Bool
+anySigned n = true
+
+abbrev pub partWritten : Part → Bool
+partWritten (freq f) = true
+partWritten (interval n) = true
+partWritten (count n) = true
+partWritten (until t) = true
+partWritten (byDay es) = listed weekdayWritten es
+partWritten (byMonthDay ns) = listed anySigned ns
+partWritten (bySetPos ns) = listed anySigned ns
+
+abbrev pub written : Form → Bool
+written (zone s) = true
+written (change t s) = true
+written (cron mi h d mo w) = true
+written (rule t ps) = allOf partWritten ps
+written (extra t) = true
+written (except t) = true
+
+-- a part that is given passes a test
+abbrev pub givenPasses : {A : Type 0} → (A → Bool) → Option A → Bool
+givenPasses test none = true
+givenPasses test (some a) = test a
+
+pub record Good (g : Given) : Type 0 where
+  pub count : givenPasses (leb 1) (g .count) ≡ true
+  pub days : givenPasses (listed entryGood) (g .days) ≡ true
+  pub monthDays : givenPasses (listed dayNumberInRange) (g .monthDays) ≡ true
+  pub positions : givenPasses (listed dayNumberInRange) (g .positions) ≡ true
+
+both : (a b : Bool) → a ≡ true → b ≡ true → (b && a) ≡ true
+both a b e f = rw (e, f) refl
+
+numbers-good : (ns : List Signed) → listed anySigned ns ≡ true → allOf dayNumberInRange ns ≡ true → listed dayNumberInRange ns ≡ true
+numbers-good ns = listed-by anySigned dayNumberInRange dayNumberInRange (λ n a b. b) ns
+
+entries-good : (es : List Entry) → listed weekdayWritten es ≡ true → allOf entryInRange es ≡ true → listed entryGood es ≡ true
+entries-good es = listed-by weekdayWritten entryInRange entryGood (λ e. both (weekdayWritten e) (entryInRange e)) es
+
+with-part : (p : Part) (ps : List Part) → partWritten p ≡ true → partInRange p ≡ true → Good (givenOf ps) → Good (givenOf (p ∷ ps))
+unfolding givenOf partInRange
+with-part (freq f) ps w r g = record { count = g .count; days = g .days; monthDays = g .monthDays; positions = g .positions }
+with-part (interval n) ps w r g = record { count = g .count; days = g .days; monthDays = g .monthDays; positions = g .positions }
+with-part (count n) ps w r g = record { count = both-true (leb 1 n) (leb n 9999) r .0; days = g .days; monthDays = g .monthDays; positions = g .positions }
+with-part (until t) ps w r g = record { count = g .count; days = g .days; monthDays = g .monthDays; positions = g .positions }
+with-part (byDay es) ps w r g = record { count = g .count; days = entries-good es w r; monthDays = g .monthDays; positions = g .positions }
+with-part (byMonthDay ns) ps w r g = record { count = g .count; days = g .days; monthDays = numbers-good ns w r; positions = g .positions }
+with-part (bySetPos ns) ps w r g = record { count = g .count; days = g .days; monthDays = g .monthDays; positions = numbers-good ns w r }
+
+given-good : (ps : List Part) → allOf partWritten ps ≡ true → allOf partInRange ps ≡ true → Good (givenOf ps)
+unfolding givenOf
+given-good [] w r = record { count = refl; days = refl; monthDays = refl; positions = refl }
+given-good (p ∷ ps) w r =
+    let a = both-true (partWritten p) (allOf partWritten ps) w in
+    let b = both-true (partInRange p) (allOf partInRange ps) r in
+    with-part p ps (a .0) (b .0) (given-good ps (a .1) (b .1))
+
+pub rule-good : (t : Time) (ps : List Part) → written (rule t ps) ≡ true → inRange (rule t ps) ≡ true → Good (givenOf ps)
+unfolding inRange
+rule-good t ps w r = given-good ps w (both-true (timeInRange t) (allOf partInRange ps) r .1)
