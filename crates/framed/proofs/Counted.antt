@@ -67,7 +67,7 @@ ordinal-counted false d w h e =
     ending w (localDate d .day) (monthFirst (localDate d .month)) (a .low) (ap localWeekday (a .whole) ∙ e)
 
 -- where d passes it, it is one of them
-one-counted : (test : ℕ → Bool) (k n d : ℕ) → n ≤ d → d < n + k → test d ≡ true → 1 ≤ countFrom test k n
+pub one-counted : (test : ℕ → Bool) (k n d : ℕ) → n ≤ d → d < n + k → test d ≡ true → 1 ≤ countFrom test k n
 one-counted test zero n d l h t = absurd (omega arith)
 one-counted test (suc k) n d l h t =
     by-order n d (λ b. omega (arith, one-counted test k (suc n) d (omega arith) (omega arith) t))

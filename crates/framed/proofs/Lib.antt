@@ -7,3 +7,5 @@ pub mod Crons
 pub mod Goods
 pub mod Sets
 pub mod Days
+pub mod Nths
+pub mod Helds
