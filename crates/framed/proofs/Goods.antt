@@ -15,10 +15,10 @@ use Rattle.framed.proofs.Listed.{listed, listed-by}
 use Rattle.framed.proofs.Ordinals.{entryWeekday, entryGood}
 
 -- a list is never empty, and a weekday is one of the seven
-abbrev weekdayWritten : Entry → Bool
+abbrev pub weekdayWritten : Entry → Bool
 weekdayWritten e = ltb (entryWeekday e) 7
 
-abbrev anySigned : Signed → Bool
+abbrev pub anySigned : Signed → Bool
 anySigned n = true
 
 abbrev pub partWritten : Part → Bool

@@ -9,3 +9,6 @@ pub mod Sets
 pub mod Days
 pub mod Nths
 pub mod Helds
+pub mod Passing
+pub mod Forms
+pub mod Lines

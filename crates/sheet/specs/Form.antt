@@ -85,7 +85,7 @@ pub data Entry : Type 0 where
   plain : ℕ → Entry
   ordinal : Signed → ℕ → Entry
 
-ordinalEntry : Option Signed → ℕ → Option Entry
+unfoldable pub ordinalEntry : Option Signed → ℕ → Option Entry
 ordinalEntry none w = none
 ordinalEntry (some n) w = some (ordinal n w)
 
@@ -112,19 +112,19 @@ pub data Part : Type 0 where
 unfoldable pub frequencyWords : List (List ℕ)
 frequencyWords = bytes "DAILY" ∷ bytes "WEEKLY" ∷ bytes "MONTHLY" ∷ []
 
-frequencyAt : ℕ → Option Part
+unfoldable pub frequencyAt : ℕ → Option Part
 frequencyAt k = cond (eqb k 0) (some (freq daily)) (cond (eqb k 1) (some (freq weekly)) (cond (eqb k 2) (some (freq monthly)) none))
 
 -- "Part names and values are upper case and compared byte for byte."
 unfoldable pub partWords : List (List ℕ)
 partWords = bytes "FREQ" ∷ bytes "INTERVAL" ∷ bytes "COUNT" ∷ bytes "UNTIL" ∷ bytes "BYDAY" ∷ bytes "BYMONTHDAY" ∷ bytes "BYSETPOS" ∷ []
 
-partBy : {A : Type 0} → (A → Part) → Option A → Option Part
+unfoldable pub partBy : {A : Type 0} → (A → Part) → Option A → Option Part
 partBy part none = none
 partBy part (some a) = some (part a)
 
 -- the value of a part by the part's name
-valueOf : ℕ → List ℕ → Option Part
+unfoldable pub valueOf : ℕ → List ℕ → Option Part
 unfolding frequencyAt partBy
 valueOf k v =
     cond (eqb k 0) (frequencyAt (wordIn frequencyWords v))
@@ -135,7 +135,7 @@ valueOf k v =
     (cond (eqb k 5) (partBy byMonthDay (eachOf signedOf (pieces (byte ",") v)))
     (cond (eqb k 6) (partBy bySetPos (eachOf signedOf (pieces (byte ",") v))) none))))))
 
-named : List (List ℕ) → Option Part
+unfoldable pub named : List (List ℕ) → Option Part
 unfolding valueOf
 named [] = none
 named (name ∷ []) = none
@@ -155,16 +155,16 @@ pub data Form : Type 0 where
   extra : Time → Form
   except : Time → Form
 
-formBy : {A : Type 0} → (A → Form) → Option A → Option Form
+unfoldable pub formBy : {A : Type 0} → (A → Form) → Option A → Option Form
 formBy form none = none
 formBy form (some a) = some (form a)
 
-changeBy : Option Time → Option Shift → Option Form
+unfoldable pub changeBy : Option Time → Option Shift → Option Form
 changeBy none s = none
 changeBy (some t) none = none
 changeBy (some t) (some s) = some (change t s)
 
-changeOf : List (List ℕ) → Option Form
+unfoldable pub changeOf : List (List ℕ) → Option Form
 unfolding changeBy
 changeOf [] = none
 changeOf (t ∷ []) = none
@@ -172,7 +172,7 @@ changeOf (t ∷ s ∷ []) = changeBy (timeOf t) (shiftOf s)
 changeOf (t ∷ s ∷ other ∷ more) = none
 
 -- "five cron fields, one space between"
-cronOf : Option (List Field) → Option Form
+unfoldable pub cronOf : Option (List Field) → Option Form
 cronOf none = none
 cronOf (some []) = none
 cronOf (some (a ∷ [])) = none
@@ -182,20 +182,20 @@ cronOf (some (a ∷ b ∷ c ∷ d ∷ [])) = none
 cronOf (some (a ∷ b ∷ c ∷ d ∷ e ∷ [])) = some (cron a b c d e)
 cronOf (some (a ∷ b ∷ c ∷ d ∷ e ∷ f ∷ more)) = none
 
-ruleBy : Option Time → Option (List Part) → Option Form
+unfoldable pub ruleBy : Option Time → Option (List Part) → Option Form
 ruleBy none ps = none
 ruleBy (some t) none = none
 ruleBy (some t) (some ps) = some (rule t ps)
 
 -- "local start time, space, rule parts separated by `;`"
-ruleOf : List (List ℕ) → Option Form
+unfoldable pub ruleOf : List (List ℕ) → Option Form
 unfolding ruleBy
 ruleOf [] = none
 ruleOf (t ∷ []) = none
 ruleOf (t ∷ ps ∷ []) = ruleBy (timeOf t) (eachOf partOf (pieces (byte ";") ps))
 ruleOf (t ∷ ps ∷ other ∷ more) = none
 
-tagged : ℕ → List ℕ → Option Form
+unfoldable pub tagged : ℕ → List ℕ → Option Form
 unfolding formBy changeOf cronOf ruleOf
 tagged tag s =
     cond (eqb tag (byte "Z")) (formBy zone (shiftOf s))

@@ -59,7 +59,7 @@ pieces separator [] = [] ∷ []
 pieces separator (c ∷ cs) = elim (eqb c separator) [ true ↦ [] ∷ pieces separator cs | false ↦ joined c (pieces separator cs) ]
 
 -- every piece is of the form, or the whole is of none
-consOf : {A : Type 0} → Option A → Option (List A) → Option (List A)
+unfoldable pub consOf : {A : Type 0} → Option A → Option (List A) → Option (List A)
 consOf none xs = none
 consOf (some x) none = none
 consOf (some x) (some xs) = some (x ∷ xs)
