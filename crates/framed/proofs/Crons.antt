@@ -1,7 +1,7 @@
 -- The frame of a cron line holds what the line holds.
-use mathlib.Core.Bool.{Bool, true, false, cond, _&&_, _||_, and-comm, and-assoc}
-use mathlib.Core.Path.{_≡_, refl, sym, ap, _∙_}
-use Prim.Native.Nat.{ℕ, _+_, _/_, _%_, _<_, _≤_}
+use mathlib.Core.Bool.{Bool, true, false, cond, _&&_, and-comm, and-assoc}
+use mathlib.Core.Path.{_≡_, refl, ap, _∙_}
+use Prim.Native.Nat.{ℕ, _+_, _/_, _%_, _<_}
 use native.Mathlib.Omega.{arith}
 use Rattle.calendar.specs.Window.{localDate, localWeekday, dayMinutes, windowDays, windowMinutes}
 use Rattle.frames.proofs.MonthDays.{weekday-at-most}

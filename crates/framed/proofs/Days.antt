@@ -1,12 +1,12 @@
 -- The days of a rule's frame are those of the rule, COUNT and UNTIL left out.
-use mathlib.Core.Bool.{Bool, true, false, cond, _&&_, _||_}
+use mathlib.Core.Bool.{Bool, true, false, _&&_, _||_}
 use mathlib.Core.List.{List}
 use mathlib.Core.Option.{Option, none, some, Option·getD}
-use mathlib.Core.Path.{_≡_, refl, sym, ap, ap₂, _∙_}
-use Prim.Native.Nat.{ℕ, _-_, _/_, _%_, _<_, _≤_}
+use mathlib.Core.Path.{_≡_, refl, ap, ap₂, _∙_}
+use Prim.Native.Nat.{ℕ, _-_, _/_, _%_, _<_}
 use native.Mathlib.Omega.{arith}
 use lib.Dec.{leb, eqb}
-use Rattle.calendar.specs.Window.{localDate, localWeek, dayMinutes, windowDays, windowMinutes}
+use Rattle.calendar.specs.Window.{dayMinutes, windowDays, windowMinutes}
 use Rattle.frames.specs.Rule.{noLimit, monthDayAllowed, weekdayAllowed, inSet, placed, period, counts, ruleDay, ruleOccurs}
 use Rattle.frames.specs.declared.Ends.{Ends}
 use Rattle.frames.specs.declared.Rule.{Rule}
@@ -33,15 +33,16 @@ module _ (r : Rule) (d : ℕ) where
   unfolding placed
   given-place n = rw (n, placed) refl
 
+period-is : (f : Frequency) (r : Rule) → r .frequency ≡ frequencyNumber f → (d : ℕ) → period r d ≡ periodOf f d
+unfolding period
+period-is daily r e d = rw e refl
+period-is weekly r e d = rw e refl
+period-is monthly r e d = rw e refl
+
 module _ (f : Frequency) (g : Given) (first : ℕ) (r : Rule) (a : Framed f g first r) (good : Good g) where
   counts-is : (d : ℕ) → counts r d ≡ eqb ((periodOf f d - periodOf f first) % Option·getD (g .interval) 1) 0
-  unfolding counts period
-  counts-is d = rw (a .start, a .interval, a .frequency) (by-frequency f)
-    where
-      by-frequency : (f : Frequency) → eqb ((cond (eqb (frequencyNumber f) 1) d (cond (eqb (frequencyNumber f) 2) (localWeek d) (localDate d .month)) - cond (eqb (frequencyNumber f) 1) first (cond (eqb (frequencyNumber f) 2) (localWeek first) (localDate first .month))) % Option·getD (g .interval) 1) 0 ≡ eqb ((periodOf f d - periodOf f first) % Option·getD (g .interval) 1) 0
-      by-frequency daily = refl
-      by-frequency weekly = refl
-      by-frequency monthly = refl
+  unfolding counts
+  counts-is d = rw (period-is f r (a .frequency) d, period-is f r (a .frequency) (r .start / dayMinutes), a .start, a .interval) refl
 
   module _ (d : ℕ) (h : d < windowDays) where
     place-is : (minus : Bool) → counted minus (inSet r) d ≡ counted minus (daySet f g first) d

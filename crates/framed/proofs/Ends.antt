@@ -2,7 +2,7 @@
 use mathlib.Core.Bool.{Bool, true, false, cond, not, _&&_, _||_, and-false, or-false, false≢true}
 use mathlib.Core.List.{List, [], _∷_}
 use mathlib.Core.Path.{_≡_, refl, sym, ap, ap₂, _∙_}
-use Prim.Native.Nat.{ℕ, _+_, _<_, _≤_}
+use Prim.Native.Nat.{ℕ, _≤_}
 use native.Mathlib.Omega.{arith}
 use borrow.Author.Tests.{eq-eqb, eqb-true, leb-true}
 use lib.Dec.{leb, eqb}
@@ -22,17 +22,20 @@ use Rattle.framed.proofs.Listed.{listed, any-either}
 abbrev pub endOf : Bool → Ends → ℕ
 endOf minus e = cond minus (e .back) (e .front)
 
--- one with a bit is a limit
-pub bit-not-zero : (mask n : ℕ) → bit mask n ≡ true → eqb mask 0 ≡ false
-bit-not-zero mask n t =
-    decided (eqb mask 0) (λ (z : eqb mask 0 ≡ true). absurd (false≢true (sym (bit-of-zero n) ∙ ap (λ (m : ℕ). bit m n) (sym (eqb-true mask 0 z)) ∙ t)))
+-- one with a bit, or of which a part has one, is a limit
+pub bit-not-zero : (part : ℕ → ℕ) → part 0 ≡ 0 → (mask n : ℕ) → bit (part mask) n ≡ true → eqb mask 0 ≡ false
+bit-not-zero part none mask n t =
+    decided (eqb mask 0)
+    (λ (z : eqb mask 0 ≡ true).
+    let e : part mask ≡ 0 = ap part (eqb-true mask 0 z) ∙ none in
+    absurd (false≢true (sym (bit-of-zero n) ∙ ap (λ (m : ℕ). bit m n) (sym e) ∙ t)))
     (λ (f : eqb mask 0 ≡ false). f)
 
 pub end-limits : (e : Ends) (minus : Bool) → eqb (endOf minus e) 0 ≡ false → noLimit e ≡ false
 end-limits e true f = rw f (and-false (eqb (e .front) 0))
 end-limits e false f = rw f refl
 
-abbrev signedAs : Bool → ℕ → Signed → Bool
+abbrev pub signedAs : Bool → ℕ → Signed → Bool
 signedAs minus n s = cond minus (s .minus) (not (s .minus)) && eqb (s .number) n
 
 pub end-bit : (minus : Bool) (ns : List Signed) (n : ℕ) → 1 ≤ n → n ≤ 31 → bit (endOf minus (endsOf ns)) n ≡ anyOf (signedAs minus n) ns
@@ -65,5 +68,5 @@ ends-limit (s ∷ ns) e =
     let q = both-true (leb 1 (s .number)) (leb (s .number) 31) (p .0) in
     let a : anyOf (signedAs (s .minus) (s .number)) (s ∷ ns) ≡ true = rw (own-sign s (s .minus) refl) refl in
     end-limits (endsOf (s ∷ ns)) (s .minus)
-    (bit-not-zero (endOf (s .minus) (endsOf (s ∷ ns))) (s .number)
+    (bit-not-zero (λ m. m) refl (endOf (s .minus) (endsOf (s ∷ ns))) (s .number)
     (end-bit (s .minus) (s ∷ ns) (s .number) (leb-true 1 (s .number) (q .0)) (leb-true (s .number) 31 (q .1)) ∙ a))

@@ -1,5 +1,5 @@
 -- The form of a line is one that can be written: its lists are not empty, and its weekdays are of the seven.
-use mathlib.Core.Bool.{Bool, true, false, cond}
+use mathlib.Core.Bool.{Bool, true, false}
 use mathlib.Core.List.{List, [], _∷_}
 use mathlib.Core.Option.{Option, none, some}
 use mathlib.Core.Path.{_≡_, refl, sym, ap, _∙_}
@@ -9,7 +9,7 @@ use lib.ListN.{length, take, drop}
 use Rattle.calendar.specs.Below.{allOf}
 use Rattle.lines.specs.Bytes.{byte}
 use Rattle.masks.proofs.Bits.{decided}
-use Rattle.sheet.specs.Form.{Time, timeOf, Shift, shiftOf, Field, fieldOf, Entry, plain, ordinalEntry, weekdayWords, entryOf, Part, freq, interval, count, until, byDay, byMonthDay, bySetPos, frequencyAt, frequencyWords, partWords, partBy, valueOf, named, partOf, Form, zone, extra, except, formBy, changeBy, changeOf, cronOf, ruleBy, ruleOf, tagged, formOf}
+use Rattle.sheet.specs.Form.{Time, timeOf, Shift, shiftOf, Field, fieldOf, ordinalEntry, weekdayWords, entryOf, Part, interval, count, until, byDay, byMonthDay, bySetPos, frequencyAt, frequencyWords, partWords, partBy, valueOf, named, partOf, Form, zone, extra, except, formBy, changeBy, changeOf, cronOf, ruleBy, ruleOf, tagged, formOf}
 use Rattle.sheet.specs.Words.{wordIn, numberOf, Signed, signedOf, pieces, eachOf}
 use Rattle.framed.proofs.Goods.{givenPasses, weekdayWritten, anySigned, partWritten, written}
 use Rattle.framed.proofs.Listed.{listed}

@@ -1,9 +1,8 @@
 -- What the laws ask of the parts of a rule: numbers in range, and lists as they can be written.
-use mathlib.Core.Bool.{Bool, true, false, _&&_}
+use mathlib.Core.Bool.{Bool, true, _&&_}
 use mathlib.Core.List.{List, [], _∷_}
 use mathlib.Core.Option.{Option, none, some}
 use mathlib.Core.Path.{_≡_, refl}
-use Prim.Native.Nat.{ℕ}
 use lib.Dec.{leb, ltb}
 use Rattle.calendar.specs.Below.{allOf}
 use Rattle.frames.proofs.MonthSets.{both-true}

@@ -2,7 +2,7 @@
 use mathlib.Core.Bool.{Bool, true, false, cond, not, _&&_, and-true, false≢true}
 use mathlib.Core.List.{List}
 use mathlib.Core.Option.{Option, none, some, Option·getD}
-use mathlib.Core.Path.{_≡_, refl, sym, ap, ap₂, _∙_}
+use mathlib.Core.Path.{_≡_, refl, sym, ap, _∙_}
 use Prim.Native.Nat.{ℕ, _+_, _-_, _*_, _/_, _%_, _<_, _≤_}
 use native.Mathlib.Omega.{arith}
 use borrow.Author.Tests.{lt-ltb, le-ltb, le-leb, lt-leb, leb-true, eqb-true, not-true}
@@ -11,7 +11,7 @@ use Rattle.calendar.specs.Below.{countFrom}
 use Rattle.calendar.specs.Window.{dayMinutes, windowDays, windowMinutes, windowLast}
 use Rattle.days.specs.Search.{nthFrom}
 use Rattle.frames.proofs.MonthSets.{both-true}
-use Rattle.frames.specs.Rule.{ruleOccurs, ruleHeld}
+use Rattle.frames.specs.Rule.{ruleHeld}
 use Rattle.masks.proofs.Bits.{decided}
 use Rattle.sheet.specs.Form.{Time, Part, Frequency, daily, rule}
 use Rattle.sheet.specs.Meaning.{occursOn, occursAt, ruleHolds}
@@ -105,7 +105,7 @@ pub one-end : (t : Time) (ps : List Part) → together (rule t ps) ≡ true → 
 unfolding together partsTogether
 one-end t ps e = not-true _ (both-true (not (isGiven (givenOf ps .count) && isGiven (givenOf ps .until))) _ (both-true (not (givenTwice ps)) _ e .1) .0)
 
-module _ (t : Time) (ps : List Part) (inside : inRange (rule t ps) ≡ true) (w : written (rule t ps) ≡ true) (go : together (rule t ps) ≡ true) where
+module _ (t : Time) (ps : List Part) (inside : inRange (rule t ps) ≡ true) (go : together (rule t ps) ≡ true) (w : written (rule t ps) ≡ true) where
   pub rule-held : (m : ℕ) → m < windowMinutes → ruleHeld (ruleFrame (givenOf ps) (minuteOf t)) m ≡ ruleHolds (givenOf ps) (minuteOf t) m
   unfolding ruleHeld ruleFrame lastOf
   rule-held m h =

@@ -1,7 +1,7 @@
 -- The frame of a line that is taken holds and excepts what the line does.
 use mathlib.Core.Bool.{Bool, true, false, cond, not}
 use mathlib.Core.List.{List}
-use mathlib.Core.Option.{Option, some}
+use mathlib.Core.Option.{some}
 use mathlib.Core.Path.{_≡_, refl}
 use Prim.Native.Nat.{ℕ, suc, _<_}
 use native.Mathlib.Omega.{arith}
@@ -42,7 +42,7 @@ unfolding frameHolds frameOf lineHolds
 line-held c (zone s) e w m h = refl
 line-held c (change t s) e w m h = refl
 line-held c (cron mi hr d mo wd) e w m h = cron-held mi hr d mo wd m h
-line-held c (rule t ps) e w m h = let a = taken c (rule t ps) e in rule-held t ps (a .range) w (a .parts) m h
+line-held c (rule t ps) e w m h = let a = taken c (rule t ps) e in rule-held t ps (a .range) (a .parts) w m h
 line-held c (extra t) e w m h = refl
 line-held c (except t) e w m h = refl
 

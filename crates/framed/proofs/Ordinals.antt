@@ -1,8 +1,8 @@
 -- The masks of a weekday list: plain weekdays, and those with an ordinal, one mask for each.
-use mathlib.Core.Bool.{Bool, true, false, cond, not, _&&_, _||_, and-true, and-false, or-false, false≢true}
+use mathlib.Core.Bool.{Bool, true, false, not, _&&_, _||_, and-true, and-false, or-false, false≢true}
 use mathlib.Core.List.{List, [], _∷_}
 use mathlib.Core.Path.{_≡_, refl, sym, ap, ap₂, _∙_}
-use Prim.Native.Nat.{ℕ, zero, suc, _+_, _-_, _*_, _/_, _%_, _^_, _<_, _≤_}
+use Prim.Native.Nat.{ℕ, zero, suc, _+_, _-_, _*_, _^_, _<_, _≤_}
 use native.Mathlib.Nat.{zero-div}
 use native.Mathlib.Omega.{arith}
 use borrow.Author.Tests.{eq-eqb, ne-eqb, eqb-true, eqb-false, leb-true, ltb-true}
@@ -13,7 +13,7 @@ use Rattle.frames.proofs.MonthDays.{weekday-at-most}
 use Rattle.frames.proofs.MonthSets.{both-true}
 use Rattle.frames.specs.Rule.{noLimit, ordinalOf, ordinalMask, ordinalAllowed}
 use Rattle.frames.specs.declared.Ends.{Ends}
-use Rattle.masks.proofs.Bits.{decided, bit-of-zero}
+use Rattle.masks.proofs.Bits.{decided}
 use Rattle.masks.proofs.MaskFroms.{bit-in-mask, mask-from-below}
 use Rattle.masks.specs.Masks.{bit, maskFrom}
 use Rattle.sheet.specs.Form.{Entry, plain, ordinal}
@@ -21,7 +21,7 @@ use Rattle.sheet.specs.Meaning.{entryHas}
 use Rattle.sheet.specs.Range.{entryInRange}
 use Rattle.sheet.specs.Words.{Signed}
 use Rattle.framed.specs.Framed.{isPlain, isOrdinal, ordinalsOf}
-use Rattle.framed.proofs.Counted.{isWeekday, placeOf, place-low, place-high, counted, ordinal-counted}
+use Rattle.framed.proofs.Counted.{placeOf, place-high, ordinal-counted}
 use Rattle.framed.proofs.Ends.{endOf, bit-not-zero, end-limits}
 use Rattle.framed.proofs.Listed.{listed, any-either}
 
@@ -29,22 +29,35 @@ use Rattle.framed.proofs.Listed.{listed, any-either}
 abbrev pub ordinalEnds : List Entry → Ends
 ordinalEnds es = record { front = ordinalsOf false es; back = ordinalsOf true es }
 
--- the mask of one ordinal
-abbrev maskOf : Bool → List Entry → ℕ → ℕ
-maskOf minus es k = maskFrom (λ w. anyOf (isOrdinal minus k w) es) 7 0
+-- five masks in one group
+five : (a b c d e : ℕ) → a < 128 → b < 128 → c < 128 → d < 128 → e < 128 → let g = 256 ^ 4 * a + (256 ^ 3 * b + (256 ^ 2 * c + (256 * d + e))) in
+    (ordinalMask g 1 ≡ a) × (ordinalMask g 2 ≡ b) × (ordinalMask g 3 ≡ c) × (ordinalMask g 4 ≡ d) × (ordinalMask g 5 ≡ e)
+five a b c d e p q r s t = (omega arith, omega arith, omega arith, omega arith, omega arith)
 
-small : (minus : Bool) (es : List Entry) (k : ℕ) → maskOf minus es k < 128
-small minus es k = mask-from-below (λ w. anyOf (isOrdinal minus k w) es) 7 0
+module _ (minus : Bool) (es : List Entry) where
+  abbrev maskOf : ℕ → ℕ
+  maskOf k = maskFrom (λ w. anyOf (isOrdinal minus k w) es) 7 0
 
-pub ordinal-mask : (minus : Bool) (es : List Entry) (k : ℕ) → 1 ≤ k → k ≤ 5 → ordinalMask (ordinalsOf minus es) k ≡ maskOf minus es k
-unfolding ordinalsOf
-ordinal-mask minus es zero l h = absurd (omega arith)
-ordinal-mask minus es (suc zero) l h = omega (arith, small minus es 1, small minus es 2, small minus es 3, small minus es 4, small minus es 5)
-ordinal-mask minus es (suc (suc zero)) l h = omega (arith, small minus es 1, small minus es 2, small minus es 3, small minus es 4, small minus es 5)
-ordinal-mask minus es (suc (suc (suc zero))) l h = omega (arith, small minus es 1, small minus es 2, small minus es 3, small minus es 4, small minus es 5)
-ordinal-mask minus es (suc (suc (suc (suc zero)))) l h = omega (arith, small minus es 1, small minus es 2, small minus es 3, small minus es 4, small minus es 5)
-ordinal-mask minus es (suc (suc (suc (suc (suc zero))))) l h = omega (arith, small minus es 1, small minus es 2, small minus es 3, small minus es 4, small minus es 5)
-ordinal-mask minus es (suc (suc (suc (suc (suc (suc k)))))) l h = absurd (omega arith)
+  abbrev group : ℕ
+  group = ordinalsOf minus es
+
+  small : (k : ℕ) → maskOf k < 128
+  small k = mask-from-below (λ w. anyOf (isOrdinal minus k w) es) 7 0
+
+  pub ordinal-mask : (k : ℕ) → 1 ≤ k → k ≤ 5 → ordinalMask (ordinalsOf minus es) k ≡ maskFrom (λ w. anyOf (isOrdinal minus k w) es) 7 0
+  unfolding ordinalsOf
+  ordinal-mask k l h = by-ordinal k l h (five (maskOf 1) (maskOf 2) (maskOf 3) (maskOf 4) (maskOf 5) (small 1) (small 2) (small 3) (small 4) (small 5))
+    where
+      by-ordinal : (k : ℕ) → 1 ≤ k → k ≤ 5
+          → (ordinalMask group 1 ≡ maskOf 1) × (ordinalMask group 2 ≡ maskOf 2) × (ordinalMask group 3 ≡ maskOf 3) × (ordinalMask group 4 ≡ maskOf 4) × (ordinalMask group 5 ≡ maskOf 5)
+          → ordinalMask group k ≡ maskOf k
+      by-ordinal zero l h m = absurd (omega arith)
+      by-ordinal (suc zero) l h m = m .0
+      by-ordinal (suc (suc zero)) l h m = m .1
+      by-ordinal (suc (suc (suc zero))) l h m = m .2
+      by-ordinal (suc (suc (suc (suc zero)))) l h m = m .3
+      by-ordinal (suc (suc (suc (suc (suc zero))))) l h m = m .4
+      by-ordinal (suc (suc (suc (suc (suc (suc k)))))) l h m = absurd (omega arith)
 
 -- a weekday of an ordinal is one of the list's
 pub ordinal-bit : (minus : Bool) (es : List Entry) (k w : ℕ) → 1 ≤ k → k ≤ 5 → w < 7 → bit (ordinalMask (ordinalsOf minus es) k) w ≡ anyOf (isOrdinal minus k w) es
@@ -102,13 +115,8 @@ own-ordinal : (n : Signed) (w : ℕ) (minus : Bool) → n .minus ≡ minus → i
 own-ordinal n w true e = rw (e, eq-eqb (n .number) (n .number) refl, eq-eqb w w refl) refl
 own-ordinal n w false e = rw (e, eq-eqb (n .number) (n .number) refl, eq-eqb w w refl) refl
 
-ordinal-not-zero : (group k w : ℕ) → bit (ordinalMask group k) w ≡ true → eqb group 0 ≡ false
-ordinal-not-zero group k w t =
-    decided (eqb group 0)
-    (λ (z : eqb group 0 ≡ true).
-    let e : ordinalMask group k ≡ 0 = rw (eqb-true group 0 z, zero-div (256 ^ (5 - k))) refl in
-    absurd (false≢true (sym (bit-of-zero w) ∙ ap (λ (m : ℕ). bit m w) (sym e) ∙ t)))
-    (λ (f : eqb group 0 ≡ false). f)
+no-ordinal : (k : ℕ) → ordinalMask 0 k ≡ 0
+no-ordinal k = rw (zero-div (256 ^ (5 - k))) refl
 
 pub entries-limit : (es : List Entry) → listed entryGood es ≡ true → (eqb (maskFrom (λ w. anyOf (isPlain w) es) 7 0) 0 && noLimit (ordinalEnds es)) ≡ false
 unfolding entryInRange
@@ -116,7 +124,7 @@ entries-limit [] l = absurd (false≢true l)
 entries-limit (plain w ∷ es) l =
     let p = both-true (ltb w 7) (allOf entryGood es) l in
     let a : anyOf (isPlain w) (plain w ∷ es) ≡ true = rw (eq-eqb w w refl) refl in
-    rw (bit-not-zero (maskFrom (λ v. anyOf (isPlain v) (plain w ∷ es)) 7 0) w (plain-bit (plain w ∷ es) w (ltb-true w 7 (p .0)) ∙ a)) refl
+    rw (bit-not-zero (λ m. m) refl (maskFrom (λ v. anyOf (isPlain v) (plain w ∷ es)) 7 0) w (plain-bit (plain w ∷ es) w (ltb-true w 7 (p .0)) ∙ a)) refl
 entries-limit (ordinal n w ∷ es) l =
     let p = both-true (within 1 5 (n .number) && ltb w 7) (allOf entryGood es) l in
     let q = both-true (within 1 5 (n .number)) (ltb w 7) (p .0) in
@@ -124,7 +132,7 @@ entries-limit (ordinal n w ∷ es) l =
     let a : anyOf (isOrdinal (n .minus) (n .number) w) (ordinal n w ∷ es) ≡ true = rw (own-ordinal n w (n .minus) refl) refl in
     let b : bit (ordinalMask (ordinalsOf (n .minus) (ordinal n w ∷ es)) (n .number)) w ≡ true =
     ordinal-bit (n .minus) (ordinal n w ∷ es) (n .number) w (leb-true 1 (n .number) (r .0)) (leb-true (n .number) 5 (r .1)) (ltb-true w 7 (q .1)) ∙ a in
-    rw (end-limits (ordinalEnds (ordinal n w ∷ es)) (n .minus) (own-end (n .minus) (ordinal-not-zero (ordinalsOf (n .minus) (ordinal n w ∷ es)) (n .number) w b)))
+    rw (end-limits (ordinalEnds (ordinal n w ∷ es)) (n .minus) (own-end (n .minus) (bit-not-zero (λ g. ordinalMask g (n .number)) (no-ordinal (n .number)) (ordinalsOf (n .minus) (ordinal n w ∷ es)) w b)))
     (and-false (eqb (maskFrom (λ v. anyOf (isPlain v) (ordinal n w ∷ es)) 7 0) 0))
   where
     own-end : (minus : Bool) → eqb (ordinalsOf minus (ordinal n w ∷ es)) 0 ≡ false → eqb (endOf minus (ordinalEnds (ordinal n w ∷ es))) 0 ≡ false

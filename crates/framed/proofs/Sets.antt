@@ -1,16 +1,15 @@
 -- The day set of a rule's frame is that of the rule.
-use mathlib.Core.Bool.{Bool, true, false, cond, _&&_, _||_, and-comm, and-true, or-false}
+use mathlib.Core.Bool.{Bool, true, false, _&&_, _||_, and-comm, and-true, or-false}
 use mathlib.Core.List.{List}
 use mathlib.Core.Option.{Option, none, some, Option·getD}
 use mathlib.Core.Path.{_≡_, refl, sym, ap, ap₂, _∙_}
-use Prim.Native.Nat.{ℕ, _+_, _/_, _^_, _<_, _≤_}
-use native.Mathlib.Omega.{arith}
+use Prim.Native.Nat.{ℕ, _/_, _^_, _<_}
 use borrow.Author.Tests.{eq-eqb}
 use lib.Dec.{eqb}
 use Rattle.calendar.specs.Below.{anyOf}
 use Rattle.calendar.specs.Window.{localDate, localWeekday, fromEnd, dayMinutes, windowDays}
 use Rattle.frames.proofs.Allowed.{any-weekday, plain-weekday}
-use Rattle.frames.specs.Rule.{noLimit, monthDayAllowed, ordinalAllowed, weekdayAllowed, inSet}
+use Rattle.frames.specs.Rule.{noLimit, monthDayAllowed, weekdayAllowed, inSet}
 use Rattle.frames.specs.declared.Ends.{Ends}
 use Rattle.frames.specs.declared.Rule.{Rule}
 use Rattle.masks.proofs.Bits.{bit-of-power, bit-of-zero}
@@ -22,7 +21,7 @@ use Rattle.sheet.specs.Range.{dayNumberInRange}
 use Rattle.sheet.specs.Words.{Signed}
 use Rattle.framed.specs.Framed.{nothing, endsOf, weekdaysOf, daysOf, frequencyNumber}
 use Rattle.framed.proofs.Counted.{place-low, place-high}
-use Rattle.framed.proofs.Ends.{bit-not-zero, end-limits, ends-hold, ends-limit}
+use Rattle.framed.proofs.Ends.{bit-not-zero, ends-hold, ends-limit}
 use Rattle.framed.proofs.Goods.{Good, givenPasses}
 use Rattle.framed.proofs.Listed.{listed}
 use Rattle.framed.proofs.Ordinals.{ordinalEnds, entryGood, entries-hold, entries-limit}
@@ -44,7 +43,7 @@ pub record Framed (f : Frequency) (g : Given) (first : ℕ) (r : Rule) : Type 0 
   pub positions : r .positions ≡ positionsFor (g .positions)
 
 power-limits : (x : ℕ) → eqb (2 ^ x) 0 ≡ false
-power-limits x = bit-not-zero (2 ^ x) x (bit-of-power x x ∙ eq-eqb x x refl)
+power-limits x = bit-not-zero (λ m. m) refl (2 ^ x) x (bit-of-power x x ∙ eq-eqb x x refl)
 
 module _ (first d : ℕ) (h : d < windowDays) where
   -- ---- month days
