@@ -11,9 +11,9 @@ use Rattle.lines.specs.Bytes.{byte}
 use Rattle.masks.proofs.Bits.{decided}
 use Rattle.sheet.specs.Form.{Time, timeOf, Shift, shiftOf, Field, fieldOf, ordinalEntry, weekdayWords, entryOf, Part, interval, count, until, byDay, byMonthDay, bySetPos, frequencyAt, frequencyWords, partWords, partBy, valueOf, named, partOf, Form, zone, extra, except, formBy, changeBy, changeOf, cronOf, ruleBy, ruleOf, tagged, formOf}
 use Rattle.sheet.specs.Words.{wordIn, numberOf, Signed, signedOf, pieces, eachOf}
-use Rattle.framed.proofs.Goods.{givenPasses, weekdayWritten, anySigned, partWritten, written}
-use Rattle.framed.proofs.Listed.{listed}
-use Rattle.framed.proofs.Passing.{anything, anything-passes, cond-passes, all-pass, pieces-pass}
+use Rattle.framed.proofs.Goods.{givenPasses, weekdayWritten, partWritten, written}
+use Rattle.framed.proofs.Listed.{anything, listed}
+use Rattle.framed.proofs.Passing.{anything-passes, cond-passes, all-pass, pieces-pass}
 
 -- ---- weekdays
 ordinal-written : (o : Option Signed) (w : ℕ) → ltb w 7 ≡ true → givenPasses weekdayWritten (ordinalEntry o w) ≡ true
@@ -58,8 +58,8 @@ value-written k v =
     (cond-passes partWritten (eqb k 2) _ _ (simple-written count (numberOf v) (λ n. refl))
     (cond-passes partWritten (eqb k 3) _ _ (simple-written until (timeOf v) (λ t. refl))
     (cond-passes partWritten (eqb k 4) _ _ (list-written weekdayWritten entryOf byDay v entry-written (λ es e. e))
-    (cond-passes partWritten (eqb k 5) _ _ (list-written anySigned signedOf byMonthDay v (λ s. anything-passes (signedOf s)) (λ ns e. e))
-    (cond-passes partWritten (eqb k 6) _ _ (list-written anySigned signedOf bySetPos v (λ s. anything-passes (signedOf s)) (λ ns e. e)) refl))))))
+    (cond-passes partWritten (eqb k 5) _ _ (list-written anything signedOf byMonthDay v (λ s. anything-passes (signedOf s)) (λ ns e. e))
+    (cond-passes partWritten (eqb k 6) _ _ (list-written anything signedOf bySetPos v (λ s. anything-passes (signedOf s)) (λ ns e. e)) refl))))))
 
 named-written : (ps : List (List ℕ)) → givenPasses partWritten (named ps) ≡ true
 unfolding named

@@ -10,15 +10,12 @@ use Rattle.sheet.specs.Form.{Time, Entry, Part, freq, interval, count, until, b
 use Rattle.sheet.specs.Parts.{Given, givenOf}
 use Rattle.sheet.specs.Range.{entryInRange, dayNumberInRange, timeInRange, partInRange, inRange}
 use Rattle.sheet.specs.Words.{Signed}
-use Rattle.framed.proofs.Listed.{listed, listed-by}
+use Rattle.framed.proofs.Listed.{anything, listed, listed-by}
 use Rattle.framed.proofs.Ordinals.{entryWeekday, entryGood}
 
 -- a list is never empty, and a weekday is one of the seven
 abbrev pub weekdayWritten : Entry → Bool
 weekdayWritten e = ltb (entryWeekday e) 7
-
-abbrev pub anySigned : Signed → Bool
-anySigned n = true
 
 abbrev pub partWritten : Part → Bool
 partWritten (freq f) = true
@@ -26,8 +23,8 @@ partWritten (interval n) = true
 partWritten (count n) = true
 partWritten (until t) = true
 partWritten (byDay es) = listed weekdayWritten es
-partWritten (byMonthDay ns) = listed anySigned ns
-partWritten (bySetPos ns) = listed anySigned ns
+partWritten (byMonthDay ns) = listed anything ns
+partWritten (bySetPos ns) = listed anything ns
 
 abbrev pub written : Form → Bool
 written (zone s) = true
@@ -51,8 +48,8 @@ pub record Good (g : Given) : Type 0 where
 both : (a b : Bool) → a ≡ true → b ≡ true → (b && a) ≡ true
 both a b e f = rw (e, f) refl
 
-numbers-good : (ns : List Signed) → listed anySigned ns ≡ true → allOf dayNumberInRange ns ≡ true → listed dayNumberInRange ns ≡ true
-numbers-good ns = listed-by anySigned dayNumberInRange dayNumberInRange (λ n a b. b) ns
+numbers-good : (ns : List Signed) → listed anything ns ≡ true → allOf dayNumberInRange ns ≡ true → listed dayNumberInRange ns ≡ true
+numbers-good ns = listed-by anything dayNumberInRange dayNumberInRange (λ n a b. b) ns
 
 entries-good : (es : List Entry) → listed weekdayWritten es ≡ true → allOf entryInRange es ≡ true → listed entryGood es ≡ true
 entries-good es = listed-by weekdayWritten entryInRange entryGood (λ e. both (weekdayWritten e) (entryInRange e)) es

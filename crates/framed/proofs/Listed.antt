@@ -5,6 +5,9 @@ use mathlib.Core.Path.{_≡_, refl, ap₂, _∙_}
 use Rattle.calendar.specs.Below.{anyOf, allOf}
 use Rattle.frames.proofs.MonthSets.{both-true}
 
+abbrev pub anything : {A : Type 0} → A → Bool
+anything a = true
+
 -- there is an element, and every one passes the test
 abbrev pub listed : {A : Type 0} → (A → Bool) → List A → Bool
 listed test [] = false

@@ -9,10 +9,7 @@ use Rattle.calendar.specs.Below.{allOf}
 use Rattle.masks.proofs.Bits.{decided}
 use Rattle.sheet.specs.Words.{pieces, consOf, eachOf}
 use Rattle.framed.proofs.Goods.{givenPasses}
-use Rattle.framed.proofs.Listed.{listed}
-
-abbrev pub anything : {A : Type 0} → A → Bool
-anything a = true
+use Rattle.framed.proofs.Listed.{anything, listed}
 
 pub anything-passes : {A : Type 0} (o : Option A) → givenPasses anything o ≡ true
 anything-passes none = refl
