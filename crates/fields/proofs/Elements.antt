@@ -14,7 +14,8 @@ use Rattle.sheet.specs.Form.{one, range, elementOf}
 use Rattle.sheet.specs.Words.{isDigit, numberOf, pieces, eachOf}
 use Rattle.words.proofs.Listing.{onto, each-onto, each-none, piece-byte, after-byte, after-rest}
 use Rattle.words.proofs.Pieces.{After, ended, more, Cut, cut-of}
-use Rattle.words.proofs.Tied.{whole-none, whole-all, whole-part, made, madeRead, Tied, tied-made, tied-by, tied-none, numberRead, number-tied}
+use Rattle.words.proofs.Tied.{whole-none, whole-all, whole-part, made, Tied, tied-made, tied-by, tied-none, number-tied}
+use Rattle.words.specs.Answers.{madeRead, numberRead}
 use Rattle.words.specs.Reads.{digitsIn, cursor, numberAt}
 use Rattle.words.specs.declared.cursor.Number.{Number}
 use Rattle.fields.specs.Elements.{rangeFrom, elementFrom, elementAt, elementRead}

@@ -12,7 +12,8 @@ use Rattle.sheet.specs.Form.{Element, Field, star, list, elementOf, fieldOf}
 use Rattle.sheet.specs.Words.{numberOf, sameBytes, pieces, eachOf}
 use Rattle.words.proofs.Listing.{first-byte, each-onto, list-tied}
 use Rattle.words.proofs.Pieces.{Cut, cut-of}
-use Rattle.words.proofs.Tied.{made, madeRead, Tied, tied-made, tied-by}
+use Rattle.words.proofs.Tied.{made, Tied, tied-made, tied-by}
+use Rattle.words.specs.Answers.{madeRead}
 use Rattle.words.specs.Reads.{digitsIn}
 use Rattle.fields.specs.Elements.{elementAt, elementRead}
 use Rattle.fields.specs.Fields.{listOf, fieldRead}

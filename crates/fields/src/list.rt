@@ -7,9 +7,8 @@ use crate::element::Element;
 use crate::element::element_at;
 use crate::marks::Marks;
 use crate::marks::mark;
+use words::cursor::COMMA;
 use words::cursor::Cursor;
-
-const COMMA: u8 = 44;
 
 // What was marked and the place after it, or that a list is none.
 pub(crate) enum Listed {

@@ -12,26 +12,22 @@ use lib.Seq.{split-at, drop-drop, getD-drop, drop-append-le, take-append-le, tak
 use Rattle.calendar.specs.Below.{allOf}
 use Rattle.sheet.specs.Form.{Shift, shiftOf, Time, timeOf}
 use Rattle.sheet.specs.Words.{isDigit, decimal, numberOf, Signed, signedOf}
+use Rattle.words.specs.Answers.{numberRead, signedRead, shiftRead, timeRead}
 use Rattle.words.specs.Reads.{digitsIn, decimalAt, cursor, numberAt, signAt, withSign, signedAt, shiftAt, timeAt}
 use Rattle.words.specs.declared.cursor.Number.{Number}
 use Rattle.words.specs.declared.cursor.Signed.{Signed as Read}
 use Rattle.words.specs.declared.cursor.Shifted.{Shifted}
 use Rattle.words.specs.declared.cursor.Timed.{Timed}
 use Rattle.words.proofs.Listing.{first-byte}
-use Rattle.words.proofs.Tied.{both-true, all-digits, some-digits, digits-inside, wholeRead, Tied, tied-by, tied-none, numberRead, number-tied}
+use Rattle.words.proofs.Tied.{both-true, all-digits, some-digits, digits-inside, wholeRead, Tied, tied-by, tied-none, number-tied}
 
--- what may stand after a piece: no digit, no sign, no T
+-- what may stand after a number or an offset: no digit, no sign
 pub record Stops (tail : List ℕ) : Type 0 where
   pub digits : digitsIn tail ≡ 0
   pub plus : eqb (getD tail 0 0) 43 ≡ false
   pub minus : eqb (getD tail 0 0) 45 ≡ false
-  pub letter : eqb (getD tail 0 0) 84 ≡ false
 
 -- ---- a number with a sign or none
-abbrev pub signedRead : Read → Option (Signed × ℕ)
-signedRead (Read.Is m n c) = some (record { minus = m; number = n }, c .at)
-signedRead Read.Not = none
-
 abbrev signedBy : Bool → Option ℕ → Option Signed
 signedBy m none = none
 signedBy m (some n) = some (record { minus = m; number = n })
@@ -111,10 +107,6 @@ exactly p tail n stops l = by-digits (allOf isDigit p) refl
     by-digits false a = ne-eqb _ _ (λ (e : digitsIn (p ++ tail) ≡ n). omega (arith, some-digits p tail a, eqb-true (length p) n l))
 
 -- ---- an offset
-abbrev pub shiftRead : Shifted → Option (Shift × ℕ)
-shiftRead (Shifted.Is r c) = some (record { minus = r .minus; hours = r .hours; minutes = r .minutes }, c .at)
-shiftRead Shifted.Not = none
-
 shift-read : (b : Bool) (m : Bool) (h n e : ℕ)
     → shiftRead (cond b (Shifted.Is (record { minus = m; hours = h; minutes = n }) (cursor e)) Shifted.Not) ≡ cond b (some (record { minus = m; hours = h; minutes = n }, e)) none
 shift-read true m h n e = refl
@@ -190,10 +182,6 @@ module _ (s : List ℕ) (at : ℕ) (tail : List ℕ) (stops : Stops tail) where
       by-plus false e = by-minus (eqb c 45) refl e
 
 -- ---- a time
-abbrev pub timeRead : Timed → Option (Time × ℕ)
-timeRead (Timed.Is t c) = some (record { year = t .year; month = t .month; day = t .day; hour = t .hour; minute = t .minute }, c .at)
-timeRead Timed.Not = none
-
 time-read : (b : Bool) (y mo d h m e : ℕ)
     → timeRead (cond b (Timed.Is (record { year = y; month = mo; day = d; hour = h; minute = m }) (cursor e)) Timed.Not)
     ≡ cond b (some (record { year = y; month = mo; day = d; hour = h; minute = m }, e)) none
@@ -209,14 +197,15 @@ digits-up-to p tail n h e =
     let q : p ++ tail ≡ take n p ++ rest = ap (λ (l : List ℕ). l ++ tail) (split-at p n 0 h) ∙ append-assoc (take n p) (getD p n 0 ∷ drop (suc n) p) tail in
     rw q (exactly (take n p) rest n z (eq-eqb (length (take n p)) n (omega (arith, length-take n p))))
 
-module _ (s : List ℕ) (at : ℕ) (p tail : List ℕ) (stops : Stops tail) (here : drop at s ≡ p ++ tail) where
+-- after a time: no digit and no T
+module _ (s : List ℕ) (at : ℕ) (p tail : List ℕ) (stops : digitsIn tail ≡ 0) (no-letter : eqb (getD tail 0 0) 84 ≡ false) (here : drop at s ≡ p ++ tail) where
   timeTest : Bool
   timeTest = eqb (digitsIn (drop at s)) 8 && (eqb (getD s (at + 8) 0) 84 && eqb (digitsIn (drop (at + 9) s)) 4)
 
   test-whole : length p ≡ 13 → timeTest ≡ allOf isDigit (take 8 p) && (eqb (getD p 8 0) 84 && allOf isDigit (drop 9 p))
   unfolding timeTest
   test-whole l =
-      rw (here, part-byte s at p tail here 8 (omega arith), part-drop s at p tail here 9 (omega arith), exactly (drop 9 p) tail 4 (stops .digits) (eq-eqb (length (drop 9 p)) 4 (omega (arith, length-drop 9 p))))
+      rw (here, part-byte s at p tail here 8 (omega arith), part-drop s at p tail here 9 (omega arith), exactly (drop 9 p) tail 4 stops (eq-eqb (length (drop 9 p)) 4 (omega (arith, length-drop 9 p))))
       (by-letter (eqb (getD p 8 0) 84) refl)
     where
       by-letter : (b : Bool) → eqb (getD p 8 0) 84 ≡ b
@@ -230,9 +219,9 @@ module _ (s : List ℕ) (at : ℕ) (p tail : List ℕ) (stops : Stops tail) (her
   test-inside b =
       let x = both-true (eqb (digitsIn (drop at s)) 8) _ b in
       let y = both-true (eqb (getD s (at + 8) 0) 84) _ (x .1) in
-      let m : 8 ≤ length p = omega (arith, digits-inside s at p tail here (stops .digits), eqb-true (digitsIn (drop at s)) 8 (x .0)) in
+      let m : 8 ≤ length p = omega (arith, digits-inside s at p tail here stops, eqb-true (digitsIn (drop at s)) 8 (x .0)) in
       let n : length p ≡ 8 → ⊥ = letter (y .0) in
-      let d : digitsIn (drop (at + 9) s) ≤ length (drop 9 p) = digits-inside s (at + 9) (drop 9 p) tail (part-drop s at p tail here 9 (omega arith)) (stops .digits) in
+      let d : digitsIn (drop (at + 9) s) ≤ length (drop 9 p) = digits-inside s (at + 9) (drop 9 p) tail (part-drop s at p tail here 9 (omega arith)) stops in
       omega (arith, d, length-drop 9 p, eqb-true (digitsIn (drop (at + 9) s)) 4 (y .1))
     where
       letter : eqb (getD s (at + 8) 0) 84 ≡ true → length p ≡ 8 → ⊥
@@ -242,7 +231,7 @@ module _ (s : List ℕ) (at : ℕ) (p tail : List ℕ) (stops : Stops tail) (her
           let k : at + 8 + 0 ≡ at + 8 = omega arith in
           let q : getD s (at + 8) 0 ≡ getD tail 0 0 =
           ap (λ (n : ℕ). getD s n 0) (sym k) ∙ sym (getD-drop (at + 8) s 0 0) ∙ ap (λ (l : List ℕ). getD l 0 0) (f ∙ ap (λ (l : List ℕ). l ++ tail) g) in
-          let z : _≡_ {A = Bool} true false = sym e ∙ ap (λ (n : ℕ). eqb n 84) q ∙ stops .letter in
+          let z : _≡_ {A = Bool} true false = sym e ∙ ap (λ (n : ℕ). eqb n 84) q ∙ no-letter in
           let y : _≡_ {A = ℕ} 0 1 = cc in omega arith
 
   timeThere : Time

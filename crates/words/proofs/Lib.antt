@@ -5,3 +5,7 @@ pub mod Pieces
 pub mod Tied
 pub mod Listing
 pub mod Forms
+pub mod Sequence
+pub mod Choices
+pub mod Folding
+pub mod Values

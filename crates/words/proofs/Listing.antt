@@ -11,9 +11,10 @@ use lib.ListN.{length, getD, drop, length-append, List·getD-append}
 use lib.Seq.{getD-drop, drop-drop}
 use Rattle.zone.proofs.Good.{by-order}
 use Rattle.sheet.specs.Words.{pieces, eachOf}
+use Rattle.words.specs.Answers.{madeRead}
 use Rattle.words.specs.Lists.{before, listAt}
 use Rattle.words.proofs.Pieces.{After, ended, more, Cut, cut-of}
-use Rattle.words.proofs.Tied.{whole-none, whole-all, whole-part, made, madeRead, Tied, tied-made, tied-by, tied-none}
+use Rattle.words.proofs.Tied.{whole-none, whole-all, whole-part, made, Tied, tied-made, tied-by, tied-none}
 
 -- ---- a line that from a place on is a piece and more
 pub first-byte : (s : List ℕ) (at : ℕ) (p : List ℕ) → drop at s ≡ p → getD s at 0 ≡ getD p 0 0

@@ -12,6 +12,7 @@ use lib.Seq.{take-append-seam}
 use Rattle.calendar.specs.Below.{within, allOf}
 use Rattle.zone.proofs.Good.{by-order}
 use Rattle.sheet.specs.Words.{isDigit, decimal, numberOf}
+use Rattle.words.specs.Answers.{madeRead, numberRead}
 use Rattle.words.specs.Reads.{cursor, digitsIn, decimalAt, numberAt}
 use Rattle.words.specs.declared.cursor.Number.{Number}
 
@@ -74,10 +75,6 @@ pub record Tied {A : Type 0} (form : Option A) (read : Option (A × ℕ)) (at en
   pub inside : (r : A × ℕ) → read ≡ some r → (at ≤ r .1) × (r .1 ≤ end)
 
 -- ---- a number
-abbrev pub numberRead : Number → Option (ℕ × ℕ)
-numberRead (Number.Is v c) = some (v, c .at)
-numberRead Number.Not = none
-
 number-read : (b : Bool) (v e : ℕ) → numberRead (cond b (Number.Is v (cursor e)) Number.Not) ≡ cond b (some (v, e)) none
 number-read true v e = refl
 number-read false v e = refl
@@ -94,14 +91,24 @@ read-place false v r e at end g h q = let z : _≡_ {A = ℕ} 0 1 = cc in absurd
 pub tied-none : {A : Type 0} (at end : ℕ) → Tied {A = A} none none at end
 tied-none at end = record { whole = sym (whole-none end); inside = λ r q. let z : _≡_ {A = ℕ} 0 1 = cc in absurd (omega arith) }
 
+-- what is read ends inside: the whole is not of the form
+pub tied-short : {A : Type 0} (o : Option A) (r : Option (A × ℕ)) (at mid end : ℕ) → Tied o r at mid → mid < end → Tied none r at end
+tied-short o none at mid end t h = tied-none at end
+tied-short o (some r) at mid end t h =
+    let i = t .inside r refl in
+    record {
+      whole = sym (whole-part r end (λ (q : r .1 ≡ end). omega (arith, i)));
+      inside = λ x q. let j = t .inside x q in (j .0, omega (arith, j));
+    }
+
+-- what is tied from a later place on
+pub tied-from : {A : Type 0} (o : Option A) (r : Option (A × ℕ)) (at from end : ℕ) → at ≤ from → Tied o r from end → Tied o r at end
+tied-from o r at from end h t = record { whole = t .whole; inside = λ x q. let j = t .inside x q in (omega (arith, j), j .1) }
+
 -- a value made of what was read, and of the form
 abbrev pub made : {A B : Type 0} → (A → B) → Option A → Option B
 made f none = none
 made f (some a) = some (f a)
-
-abbrev pub madeRead : {A B : Type 0} → (A → B) → Option (A × ℕ) → Option (B × ℕ)
-madeRead f none = none
-madeRead f (some r) = some (f (r .0), r .1)
 
 pub tied-made : {A B : Type 0} (f : A → B) (o : Option A) (r : Option (A × ℕ)) (at from end : ℕ) → at ≤ from → Tied o r from end → Tied (made f o) (madeRead f r) at end
 tied-made f o none at from end h t = rw (t .whole ∙ whole-none end) (tied-none at end)

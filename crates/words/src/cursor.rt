@@ -11,6 +11,12 @@ const PLUS: u8 = 43;
 const MINUS: u8 = 45;
 
 const LETTER_T: u8 = 84;
+// What separates fields, elements and entries, and parts.
+pub const SPACE: u8 = 32;
+
+pub const COMMA: u8 = 44;
+
+pub const SEMICOLON: u8 = 59;
 
 pub struct Cursor {
     pub at: usize,
