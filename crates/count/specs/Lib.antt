@@ -1,0 +1,2 @@
+-- The days of a month that a frame holds.
+pub mod Sets
