@@ -2,3 +2,6 @@
 pub mod Nths
 pub mod NthBits
 pub mod NthDays
+pub mod RunBits
+pub mod Turning
+pub mod HeldSets

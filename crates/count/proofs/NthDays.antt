@@ -1,5 +1,4 @@
 -- The c-th held day of the window, month by month: a month's held days are the bits of its set.
-use mathlib.Core.Bool.{Bool}
 use mathlib.Core.List.{List}
 use mathlib.Core.Path.{_≡_, sym, ap, _∙_}
 use Prim.Native.Nat.{ℕ, _+_, _-_, _<_, _≤_, max}
@@ -8,14 +7,12 @@ use Rattle.calendar.proofs.Windows.{month-days-range, month-first-next, month-f
 use Rattle.calendar.specs.Below.{countFrom}
 use Rattle.calendar.specs.Window.{monthFirst, monthDays}
 use Rattle.frames.proofs.MonthDays.{in-month}
-use Rattle.frames.proofs.MonthSets.{month-bit}
 use Rattle.frames.specs.Months.{dayOf, InMonth}
 use Rattle.frames.specs.Numbers.{dayHeld}
 use Rattle.masks.proofs.Counts.{count-parts}
-use Rattle.masks.proofs.MaskFroms.{bit-above-mask}
 use Rattle.masks.specs.Masks.{bit, bitsFrom}
 use Rattle.days.specs.Search.{nthFrom, nthDay}
-use Rattle.count.specs.Sets.{heldSet}
+use Rattle.count.specs.Sets.{HeldSet}
 use Rattle.count.proofs.Nths.{nth-zero, nth-past, nth-within, count-none, count-along, nth-along}
 
 module _ (l : List ℕ) where
@@ -28,19 +25,14 @@ module _ (l : List ℕ) where
   unfolding nthDay nthFrom
   nth-day-past c low h = let e : 36525 - low ≡ 0 = omega arith in rw e
 
+pub month-ends : (k : ℕ) → k < 1200 → monthFirst k + monthDays k ≤ 36525
+month-ends k h = omega (arith, month-first-next k h, month-first-mono (k + 1) 1200 (omega arith) (omega arith), month-first-end)
+
 pub day-below : (k n : ℕ) → InMonth k n → dayOf k n < 36525
-day-below k n i =
-    omega (
-      arith,
-      i .low,
-      i .high,
-      month-first-next k (i .month),
-      month-first-mono (k + 1) 1200 (omega (arith, i .month)) (omega arith),
-      month-first-end,
-    )
+day-below k n i = omega (arith, i .low, i .high, month-ends k (i .month))
 
 -- from day n of month k on
-module _ (l : List ℕ) (k n : ℕ) (i : InMonth k n) (set : ℕ) (e : set ≡ heldSet l k) where
+module _ (l : List ℕ) (k n : ℕ) (i : InMonth k n) (set : ℕ) (e : HeldSet l k set) where
   rest : ℕ
   rest = monthDays k + 1 - n
 
@@ -48,9 +40,7 @@ module _ (l : List ℕ) (k n : ℕ) (i : InMonth k n) (set : ℕ) (e : set ≡ h
   unfolding rest
   held-bit x h =
       let s : monthFirst k + (n + x - 1) ≡ dayOf k n + x = omega (arith, i .low) in
-      ap (λ (m : ℕ). bit m (n + x)) e
-      ∙ month-bit (λ j. dayHeld l (dayOf k j)) k (n + x) (in-month k (n + x) (omega (arith, i .low)) (omega arith))
-      ∙ ap (dayHeld l) s
+      e .decides (n + x) (in-month k (n + x) (omega (arith, i .low)) (omega arith)) ∙ ap (dayHeld l) s
 
   bits-here : bitsFrom set n ≡ countFrom (bit set) rest n
   unfolding bitsFrom rest
@@ -59,7 +49,7 @@ module _ (l : List ℕ) (k n : ℕ) (i : InMonth k n) (set : ℕ) (e : set ≡ h
       let s : 64 - n ≡ (monthDays k + 1 - n) + (63 - monthDays k) = omega (arith, i .high) in
       let z : countFrom (bit set) (63 - monthDays k) (n + (monthDays k + 1 - n)) ≡ 0 =
       count-none (bit set) (63 - monthDays k) (n + (monthDays k + 1 - n))
-      (λ j h. ap (λ (m : ℕ). bit m j) e ∙ bit-above-mask (λ x. dayHeld l (dayOf k x)) (monthDays k) 1 j (omega arith)) in
+      (λ j h. e .none j (omega arith)) in
       let a = count-parts (bit set) (monthDays k + 1 - n) (63 - monthDays k) n in
       ap (λ (x : ℕ). countFrom (bit set) x n) s ∙ omega (arith, a, z)
 
@@ -69,15 +59,7 @@ module _ (l : List ℕ) (k n : ℕ) (i : InMonth k n) (set : ℕ) (e : set ≡ h
   -- the window's days in those of this month and those past it
   split : 36525 - dayOf k n ≡ rest + (36525 - dayOf (k + 1) 1)
   unfolding rest
-  split =
-      omega (
-        arith,
-        i .low,
-        i .high,
-        month-first-next k (i .month),
-        month-first-mono (k + 1) 1200 (omega (arith, i .month)) (omega arith),
-        month-first-end,
-      )
+  split = omega (arith, i .low, i .high, month-first-next k (i .month), month-ends k (i .month))
 
   pub nth-day-here : (c : ℕ) → 1 ≤ c → c ≤ bitsFrom set n → monthFirst k + nthFrom (bit set) c (64 - n) n - 1 ≡ nthDay l c (dayOf k n)
   unfolding nthDay rest

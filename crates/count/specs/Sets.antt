@@ -1,16 +1,17 @@
 -- The days of a month that a frame holds, as a mask.
-use mathlib.Core.Bool.{Bool, true}
+use mathlib.Core.Bool.{Bool, true, false}
 use mathlib.Core.List.{List}
 use mathlib.Core.Path.{_≡_}
-use Prim.Native.Nat.{ℕ, _≤_}
-use Rattle.calendar.specs.Window.{monthDays}
-use Rattle.frames.specs.Months.{dayOf}
+use Prim.Native.Nat.{ℕ, _<_, _≤_}
+use Rattle.calendar.specs.Window.{monthDays, windowDays}
+use Rattle.frames.specs.Months.{dayOf, InMonth}
 use Rattle.frames.specs.Numbers.{dayHeld}
-use Rattle.masks.specs.Masks.{maskFrom}
+use Rattle.masks.specs.Masks.{bit}
 
-abbrev pub heldSet : List ℕ → ℕ → ℕ
-heldSet l k = maskFrom (λ n. dayHeld l (dayOf k n)) (monthDays k) 1
+pub record HeldSet (l : List ℕ) (k set : ℕ) : Type 0 where
+  pub decides : (n : ℕ) → InMonth k n → bit set n ≡ dayHeld l (dayOf k n)
+  pub none : (n : ℕ) → monthDays k < n → bit set n ≡ false
 
--- every number from d on passes
+-- every day from d on passes
 pub record AllFrom (test : ℕ → Bool) (d : ℕ) : Type 0 where
-  pub passes : (j : ℕ) → d ≤ j → test j ≡ true
+  pub passes : (j : ℕ) → d ≤ j → j < windowDays → test j ≡ true

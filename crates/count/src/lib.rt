@@ -6,7 +6,9 @@ ghost use Rattle.frames.specs.Months.{dayOf, InMonth};
 ghost use Rattle.frames.specs.Numbers.{startMonth};
 
 mod bits;
+mod runs;
 mod sets;
+mod turns;
 
 use calendar::num;
 use calendar::window;

@@ -1,7 +1,7 @@
 // The local days that one cron or rule frame holds: the least and the last of a range.
 mod back;
 mod counted;
-pub mod parts;
+mod parts;
 pub mod ranges;
 mod steps;
 mod walk;

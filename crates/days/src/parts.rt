@@ -64,7 +64,7 @@ fn day_part(f: &Row, d: u64) -> bool
 }
 
 // Whether the frame holds day d, day n of a month whose set of days is known.
-pub fn day_test(f: &Row, set: u64, d: u64, n: u64) -> bool
+pub(crate) fn day_test(f: &Row, set: u64, d: u64, n: u64) -> bool
     requires { ⌜ (d < windowDays) × ((bit set n && dayPart (now f) d) ≡ dayHeld (now f) d) ⌝ }
     ensures { λ r. ⌜ r ≡ dayHeld (now (f .entry)) d ⌝ }
 {

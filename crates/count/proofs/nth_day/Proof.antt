@@ -1,11 +1,10 @@
 -- No occurrence is asked for, no day is left, or the count starts at the low end's place in its month.
-use mathlib.Core.Path.{_≡_, sym, ap, _∙_}
+use mathlib.Core.Path.{sym, ap, _∙_}
 use Prim.Native.Nat.{ℕ}
 use native.Mathlib.Omega.{arith}
 use borrow.Author.Needs.{needs}
 use denote.Ref.{now}
 use Rattle.calendar.specs.declared.year.MonthDay.{MonthDay}
-use Rattle.frames.specs.Months.{dayOf}
 use Rattle.frames.specs.Numbers.{startMonth}
 use Rattle.days.proofs.Answers.{holds-at}
 use Rattle.days.specs.Search.{nthDay}
@@ -40,9 +39,8 @@ nth-from-requires c κs = let a = c .before .before .before .before .before .arg
 
 returns-3 : tie.Need-returns-3
 returns-3 c = let a = c .before .before .before .before .before .before .args in
-    let place = c .before .local-date2 in
-    let e : dayOf (place .result .month) (place .result .day) ≡ a .low = rw (place .ensures) (sym (holds-at (a .low) (omega arith) .2)) in
-    c .nth-from .ensures ∙ ap (nthDay (now (a .f)) (a .count)) e
+    let h = holds-at (a .low) (omega arith) .2 in
+    (rw (c .before .local-date2 .ensures, ← h) at (c .nth-from .ensures))
 
 pub nth-day-spec : {M : Type 1} → statement M
 nth-day-spec =

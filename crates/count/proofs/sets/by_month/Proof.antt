@@ -1,84 +1,50 @@
--- No rule; before the start; an interval of 1 and one of months leave no day out.
-use mathlib.Core.Bool.{Bool, true, false, cond, _||_, false≢true}
-use mathlib.Core.Path.{_≡_, refl}
-use Prim.Native.Nat.{ℕ, _-_, _/_, _%_, _≤_}
+-- No rule; before the start; and where a turn is no longer than its days that count, no day is left out.
+use mathlib.Core.Bool.{false≢true, true≢false}
+use mathlib.Core.Path.{_≡_, _∙_}
+use Prim.Native.Nat.{_/_, _≤_}
 use native.Mathlib.Omega.{arith}
 use borrow.Author.Needs.{needs}
-use borrow.Author.Tests.{eq-eqb, ne-eqb, le-leb}
+use borrow.Author.Tests.{ne-eqb, eqb-true}
 use denote.Ref.{now}
 use lib.ListN.{getD}
-use Rattle.frames.specs.Kinds.{isDaily, isWeekly}
-use Rattle.frames.specs.Numbers.{ruleOf}
-use Rattle.frames.specs.Rule.{period, counts}
-use Rattle.frames.specs.declared.Rule.{Rule}
-use Rattle.days.specs.Steps.{dayCounts, dayPart}
+use Rattle.days.specs.Steps.{dayPart}
+use Rattle.count.specs.Turns.{widthOf}
+use Rattle.count.proofs.Turning.{part-from, whole-turn}
 use Rattle.count.proofs.sets.by_month.Statement.{statement}
 use Rattle.count.proofs.sets.by_month.Tie as tie
-
-either-way : (b : Bool) → cond b true true ≡ true
-either-way true = refl
-either-way false = refl
-
-every-counts : (f : Rule) (d : ℕ) → f .interval ≡ 1 → dayCounts f d ≡ true
-unfolding dayCounts counts period
-every-counts f d e =
-    let z : (period f d - period f (f .start / 1440)) % 1 ≡ 0 = omega arith in
-    rw (e, z) (either-way (isDaily f || isWeekly f))
 
 element-copy-out-if1 : tie.Need-element-copy-out-if1
 element-copy-out-if1 c = search needs
 
 returns : tie.Need-returns
 unfolding dayPart
-returns c = λ e. record { passes = λ j h. rw (ne-eqb _ _ (c .if1 .taken)) }
+returns c = (λ e. record { passes = λ j h t. rw (ne-eqb _ _ (c .if1 .taken)) }, λ e. absurd (true≢false e))
 
 element-copy-out-if2 : tie.Need-element-copy-out-if2
 element-copy-out-if2 c = search needs
 
 returns-2 : tie.Need-returns-2
-returns-2 c = λ e. absurd (false≢true e)
+returns-2 c = (λ e. absurd (false≢true e), λ e. c .before .before .if1 .left)
 
-element-copy-out-if3 : tie.Need-element-copy-out-if3
-element-copy-out-if3 c = search needs
+turn-requires : tie.Need-turn-requires
+turn-requires c κs = search needs
+
+width-requires : tie.Need-width-requires
+width-requires c κs = search needs
 
 returns-3 : tie.Need-returns-3
-unfolding dayPart
-returns-3 c = let a = c .before .before .before .before .before .before .args in
-    let l = now (a .f) in
-    λ e.
-    record {
-      passes = λ j h.
-          let s : getD l 3 0 / 1440 ≤ j = omega arith in
-          simp (eq-eqb _ _ (c .before .before .before .before .if1 .left), le-leb _ _ s, every-counts (ruleOf l) j (c .if3 .taken));
-    }
-
-element-copy-out-if4 : tie.Need-element-copy-out-if4
-element-copy-out-if4 c = search needs
-
-returns-4 : tie.Need-returns-4
-returns-4 c = λ e. absurd (false≢true e)
-
-element-copy-out-if5 : tie.Need-element-copy-out-if5
-element-copy-out-if5 c = search needs
-
-returns-5 : tie.Need-returns-5
-returns-5 c = λ e. absurd (false≢true e)
-
-returns-6 : tie.Need-returns-6
-unfolding dayPart dayCounts
-returns-6 c = let a = c .before .before .before .before .before .before .before .before .before .before .args in
-    let l = now (a .f) in
-    λ e.
-    record {
-      passes = λ j h.
-          let s : getD l 3 0 / 1440 ≤ j = omega arith in
-          simp (
-            eq-eqb _ _ (c .before .before .before .before .before .before .before .before .if1 .left),
-            le-leb _ _ s,
-            ne-eqb _ _ (c .before .before .if4 .left),
-            ne-eqb _ _ (c .if5 .left),
-          );
-    }
+returns-3 c = let l = now (c .before .before .before .before .before .before .args .f) in
+    let kind = c .before .before .before .before .if1 .left in
+    let turn = c .before .turn in (
+      λ e.
+          record {
+            passes = λ j h t.
+                let w : turn .result ≡ widthOf l = eqb-true (turn .result) (c .width .result) e ∙ c .width .ensures in
+                let s : getD l 3 0 / 1440 ≤ j = omega arith in
+                part-from l kind j s ∙ whole-turn l (turn .result) (turn .ensures) w j s t;
+          },
+      λ e. kind,
+    )
 
 pub by-month-spec : {M : Type 1} → statement M
 by-month-spec =
@@ -88,10 +54,6 @@ by-month-spec =
     returns
     element-copy-out-if2
     returns-2
-    element-copy-out-if3
-    returns-3
-    element-copy-out-if4
-    returns-4
-    element-copy-out-if5
-    returns-5
-    returns-6)
+    turn-requires
+    width-requires
+    returns-3)
