@@ -1,6 +1,5 @@
-// The local days that one cron or rule frame holds: the least and the last of a range, and the COUNT-th.
+// The local days that one cron or rule frame holds: the least and the last of a range.
 mod back;
-pub mod count;
 mod counted;
 mod parts;
 pub mod ranges;

@@ -60,5 +60,5 @@ pub extern "C" fn probe_list_last(fs: &Rows, count: usize, low: u64, high: u64) 
 pub extern "C" fn probe_nth_day(f: &Row, count: u64, low: u64) -> u64
     ensures { λ r. ⌜ r ≡ nthDay (now (f .entry)) count low ⌝ }
 {
-    days::count::nth_day(f, count, low)
+    count::nth_day(f, count, low)
 }

@@ -1,0 +1,7 @@
+-- What the proofs of count share.
+pub mod Nths
+pub mod NthBits
+pub mod NthDays
+pub mod RunBits
+pub mod Turning
+pub mod HeldSets
