@@ -51,30 +51,26 @@ unfoldable pub givenTwice : List Part → Bool
 givenTwice [] = false
 givenTwice (p ∷ ps) = anyOf (λ q. eqb (nameOf p) (nameOf q)) ps || givenTwice ps
 
-isOrdinal : Entry → Bool
+abbrev pub isOrdinal : Entry → Bool
 isOrdinal (plain w) = false
 isOrdinal (ordinal n w) = true
 
-ordinals : Option (List Entry) → Bool
-unfolding isOrdinal
+abbrev pub ordinals : Option (List Entry) → Bool
 ordinals none = false
 ordinals (some es) = anyOf isOrdinal es
 
 -- "ordinal outside MONTHLY, BYMONTHDAY with WEEKLY, BYSETPOS outside MONTHLY or with neither BYDAY nor BYMONTHDAY"
-clashing : Frequency → Given → Bool
-unfolding ordinals
+unfoldable pub clashing : Frequency → Given → Bool
 clashing daily g = ordinals (g .days) || isGiven (g .positions)
 clashing weekly g = ordinals (g .days) || (isGiven (g .positions) || isGiven (g .monthDays))
 clashing monthly g = isGiven (g .positions) && not (isGiven (g .days) || isGiven (g .monthDays))
 
-byFrequency : Option Frequency → Given → Bool
-unfolding clashing
+unfoldable pub byFrequency : Option Frequency → Given → Bool
 byFrequency none g = false
 byFrequency (some f) g = not (clashing f g)
 
 -- "FREQ missing, a part twice, COUNT with UNTIL"
 unfoldable pub partsTogether : List Part → Bool
-unfolding byFrequency
 partsTogether ps =
     let g = givenOf ps in
     not (givenTwice ps) && (not (isGiven (g .count) && isGiven (g .until)) && byFrequency (g .frequency) g)

@@ -1,0 +1,77 @@
+-- The value of a part: the readers by the part's name against the forms of a whole piece.
+use mathlib.Core.Bool.{true, false}
+use mathlib.Core.List.{List, _∷_, _++_}
+use mathlib.Core.Option.{Option, none, some}
+use mathlib.Core.Path.{_≡_, refl, ap}
+use Prim.Native.Nat.{ℕ, zero, suc, _+_, _<_}
+use native.Mathlib.Omega.{arith}
+use lib.Dec.{eqb}
+use lib.ListN.{length, getD, drop, length-append, length-drop}
+use Rattle.sheet.specs.Form.{timeOf, entryOf, frequencyWords, frequencyAt, Part, freq, interval, count, until, byDay, byMonthDay, bySetPos, partBy, valueOf}
+use Rattle.sheet.specs.Words.{wordIn, numberOf, signedOf, pieces, eachOf}
+use Rattle.words.proofs.Choices.{wordOf, prefixFree, one-tied}
+use Rattle.words.proofs.Forms.{signed-tied, time-tied}
+use Rattle.words.proofs.Listing.{list-tied}
+use Rattle.words.proofs.Tied.{made, Tied, tied-made, number-tied}
+use Rattle.words.specs.Answers.{madeRead, signedRead}
+use Rattle.words.specs.Lists.{listAt}
+use Rattle.words.specs.Reads.{startsWith, signedAt}
+use Rattle.parts.specs.Values.{entryRead, daysRead, numbersRead, frequencyOf, valueRead}
+use Rattle.parts.proofs.Ends.{End, comma, end-digits, end-stops, end-letter, end-frequencies, word-tested, word-place}
+use Rattle.parts.proofs.Entries.{entry-tied}
+
+-- ---- lists with as many steps as a line has bytes
+module _ {A : Type 0} (s : List ℕ) (read : ℕ → Option (A × ℕ)) (separator : ℕ) (form : List ℕ → Option A) (Stop : List ℕ → Type 0) (stop : (rest : List ℕ) → Stop (separator ∷ rest))
+    (tie : (at : ℕ) (p tail : List ℕ) → drop at s ≡ p ++ tail → Stop tail → Tied (form p) (read at) at (at + length p)) where
+  pub all-tied : (at : ℕ) (p tail : List ℕ) → drop at s ≡ p ++ tail → Stop tail → eqb (getD tail 0 0) separator ≡ false
+      → Tied (eachOf form (pieces separator p)) (listAt read separator s (length s + 1) at) at (at + length p)
+  all-tied at p tail here stops other =
+      list-tied read separator s form Stop stop tie tail stops other (length s + 1) at p here (omega (arith, ap length here, length-append p tail, length-drop at s))
+
+module _ (s : List ℕ) (at : ℕ) (p tail : List ℕ) (here : drop at s ≡ p ++ tail) (ends : End tail) (other : eqb (getD tail 0 0) 44 ≡ false) where
+  pub days-tied : Tied (eachOf entryOf (pieces 44 p)) (daysRead s at) at (at + length p)
+  unfolding daysRead
+  days-tied = all-tied s (entryRead s) 44 entryOf End comma (entry-tied s) at p tail here ends other
+
+  pub numbers-tied : Tied (eachOf signedOf (pieces 44 p)) (numbersRead s at) at (at + length p)
+  unfolding numbersRead
+  numbers-tied = all-tied s (λ (e : ℕ). signedRead (signedAt s e)) 44 signedOf End comma (λ at p tail here ends. signed-tied s at tail (end-stops ends) p here) at p tail here ends other
+
+-- ---- the forms of values
+part-made : {A : Type 0} (part : A → Part) (o : Option A) → partBy part o ≡ made part o
+unfolding partBy
+part-made part none = refl
+part-made part (some a) = refl
+
+frequencies-apart : prefixFree frequencyWords ≡ true
+unfolding prefixFree startsWith frequencyWords
+frequencies-apart = refl
+
+frequency-form : (p : List ℕ) → frequencyAt (wordIn frequencyWords p) ≡ made (λ (f : ℕ). freq (frequencyOf f)) (wordOf frequencyWords p)
+unfolding frequencyWords frequencyAt
+frequency-form p = by-word (wordOf frequencyWords p) refl
+  where
+    by-place : (k : ℕ) → k < 3 → frequencyAt k ≡ some (freq (frequencyOf k))
+    by-place zero h = refl
+    by-place (suc zero) h = refl
+    by-place (suc (suc zero)) h = refl
+    by-place (suc (suc (suc k))) h = absurd (omega arith)
+
+    by-word : (o : Option ℕ) → wordOf frequencyWords p ≡ o → frequencyAt (wordIn frequencyWords p) ≡ made (λ (f : ℕ). freq (frequencyOf f)) o
+    by-word none e = rw (word-place frequencyWords p none e) refl
+    by-word (some k) e = rw (word-place frequencyWords p (some k) e) (by-place k (word-tested (λ w. true) frequencyWords p k refl e .1))
+
+module _ (s : List ℕ) (at : ℕ) (p tail : List ℕ) (here : drop at s ≡ p ++ tail) (ends : End tail) (other : eqb (getD tail 0 0) 44 ≡ false) where
+  value-by : {A : Type 0} (part : A → Part) (o : Option A) (r : Option (A × ℕ)) → Tied o r at (at + length p) → Tied (made part o) (madeRead part r) at (at + length p)
+  value-by part o r t = tied-made part o r at at (at + length p) (omega arith) t
+
+  pub value-tied : (k : ℕ) → k < 7 → Tied (valueOf k p) (valueRead k s at) at (at + length p)
+  unfolding valueOf valueRead
+  value-tied zero h = rw (frequency-form p) (value-by (λ (f : ℕ). freq (frequencyOf f)) _ _ (one-tied s at p tail here frequencyWords frequencies-apart (end-frequencies ends)))
+  value-tied (suc zero) h = rw (part-made interval (numberOf p)) (value-by interval _ _ (number-tied s at p tail here (end-digits ends)))
+  value-tied (suc (suc zero)) h = rw (part-made count (numberOf p)) (value-by count _ _ (number-tied s at p tail here (end-digits ends)))
+  value-tied (suc (suc (suc zero))) h = rw (part-made until (timeOf p)) (value-by until _ _ (time-tied s at p tail (end-digits ends) (end-letter ends) here))
+  value-tied (suc (suc (suc (suc zero)))) h = rw (part-made byDay (eachOf entryOf (pieces 44 p))) (value-by byDay _ _ (days-tied s at p tail here ends other))
+  value-tied (suc (suc (suc (suc (suc zero))))) h = rw (part-made byMonthDay (eachOf signedOf (pieces 44 p))) (value-by byMonthDay _ _ (numbers-tied s at p tail here ends other))
+  value-tied (suc (suc (suc (suc (suc (suc zero)))))) h = rw (part-made bySetPos (eachOf signedOf (pieces 44 p))) (value-by bySetPos _ _ (numbers-tied s at p tail here ends other))
+  value-tied (suc (suc (suc (suc (suc (suc (suc k))))))) h = absurd (omega arith)

@@ -1,0 +1,4 @@
+-- The parts of a rule, read at a place.
+pub mod Values
+pub mod Marks
+pub mod Given
