@@ -4,3 +4,5 @@ pub mod Marking
 pub mod Spans
 pub mod Answers
 pub mod Whole
+pub mod Crons
+pub mod Parts

@@ -1,16 +1,15 @@
 -- Elements marked one after the other.
 use mathlib.Core.Bool.{Bool, true, false, cond}
-use mathlib.Core.List.{List}
+use mathlib.Core.List.{List, [], _∷_}
 use mathlib.Core.Option.{Option, none, some}
 use mathlib.Core.Path.{_≡_, refl, sym, ap, _∙_}
-use Prim.Native.Nat.{ℕ, zero, suc, _+_, _-_, _<_, _≤_}
+use Prim.Native.Nat.{ℕ, suc, _+_, _-_, _<_, _≤_}
 use native.Mathlib.Omega.{arith}
-use borrow.Author.Tests.{eq-eqb}
 use lib.Dec.{eqb}
 use lib.ListN.{getD, drop}
 use Rattle.calendar.specs.Below.{within}
 use Rattle.sheet.specs.Form.{Element as Form, one, range}
-use Rattle.words.specs.Lists.{before, listAt}
+use Rattle.words.proofs.Folding.{overAll, takenAs, taken-not, taken-last, taken-next}
 use Rattle.words.specs.Reads.{digitsIn, cursor, numberAt}
 use Rattle.words.specs.declared.cursor.Cursor.{Cursor}
 use Rattle.words.specs.declared.cursor.Number.{Number}
@@ -61,31 +60,39 @@ module _ (low high : ℕ) (m : Marks) where
       record { form = range a b; read = ap (λ (k : Cursor). some (range a b, k .at)) (ap cursorIn e); marked = sym (ap (λ (l : Listed). marksIn l m) e) }
   marks-is Element.Not marks c e = let z : _≡_ {A = ℕ} 0 1 = cc in absurd (omega arith)
 
-listed-before : (low high : ℕ) (m : Marks) (f : Form) (o : Option (List Form × ℕ)) → listedAs low high m (before f o) ≡ listedAs low high (marksOf low high m f) o
-unfolding marksOver
-listed-before low high m f none = refl
-listed-before low high m f (some r) = refl
+-- ---- the marks of a list as what comes of any list
+over-all : (low high : ℕ) (m : Marks) (xs : List Form) → marksOver low high m xs ≡ overAll (marksOf low high) m xs
+unfolding marksOver overAll
+over-all low high m [] = refl
+over-all low high m (x ∷ xs) = over-all low high (marksOf low high m x) xs
+
+abbrev marked : Marks → ℕ → Listed
+marked m e = Listed.Is m (cursor e)
+
+as-taken : (low high : ℕ) (m : Marks) (o : Option (List Form × ℕ)) → takenAs (marksOf low high) marked Listed.Not m o ≡ listedAs low high m o
+as-taken low high m none = refl
+as-taken low high m (some r) = ap (λ (k : Marks). marked k (r .1)) (sym (over-all low high m (r .0)))
 
 -- ---- the list from a place on
 module _ (s : List ℕ) (low high : ℕ) (m : Marks) (at : ℕ) where
-  pub list-not : (left : ℕ) → elementRead (elementAt s at) ≡ none → Listed.Not ≡ listedAs low high m (elementsAt s left at)
-  unfolding elementsAt listAt
-  list-not zero e = refl
-  list-not (suc left) e = rw (listAt, e) refl
+  abbrev read : ℕ → Option (Form × ℕ)
+  read e = elementRead (elementAt s e)
+
+  pub list-not : (left : ℕ) → read at ≡ none → Listed.Not ≡ listedAs low high m (elementsAt s left at)
+  unfolding elementsAt
+  list-not left e = taken-not (marksOf low high) marked Listed.Not read 44 s m at left e ∙ as-taken low high m (elementsAt s left at)
 
   module _ (marks : Marks) (c : Cursor) (r : Read low high m (elementAt s at) marks c) where
     pub list-last : (left : ℕ) → 0 < left → eqb (getD s (c .at) 0) 44 ≡ false → Listed.Is marks c ≡ listedAs low high m (elementsAt s left at)
-    unfolding elementsAt listAt marksOver
-    list-last zero h f = absurd (omega arith)
-    list-last (suc left) h f = rw (listAt, r .read, f, r .marked) refl
+    unfolding elementsAt
+    list-last left h f = rw (r .marked) (taken-last (marksOf low high) marked Listed.Not read 44 s m at left (r .form) (c .at) h (r .read) f ∙ as-taken low high m (elementsAt s left at))
 
     pub list-next : (left : ℕ) → 0 < left → getD s (c .at) 0 ≡ 44 → listedAs low high marks (elementsAt s (left - 1) (c .at + 1)) ≡ listedAs low high m (elementsAt s left at)
-    unfolding elementsAt listAt
-    list-next zero h f = absurd (omega arith)
-    list-next (suc left) h f =
-        let n : suc left - 1 ≡ left = omega arith in
-        let step : elementsAt s (suc left) at ≡ before (r .form) (elementsAt s left (c .at + 1)) = rw (listAt, r .read, eq-eqb _ _ f) refl in
-        rw (n, r .marked) (sym (ap (listedAs low high m) step ∙ listed-before low high m (r .form) (elementsAt s left (c .at + 1))))
+    unfolding elementsAt
+    list-next left h f =
+        let n : suc (left - 1) ≡ left = omega arith in
+        let e = taken-next (marksOf low high) marked Listed.Not read 44 s m at (left - 1) (r .form) (c .at) (r .read) f in
+        rw (r .marked) (sym (as-taken low high (marksOf low high m (r .form)) (elementsAt s (left - 1) (c .at + 1))) ∙ rw n at e ∙ as-taken low high m (elementsAt s left at))
 
 -- ---- the place after an element
 placeIn : Option (Form × ℕ) → ℕ

@@ -1,5 +1,5 @@
 -- The numbers of a list of elements as a mask.
-use mathlib.Core.Bool.{Bool, true, false, cond, _&&_, _||_, and-true, and-false, or-false}
+use mathlib.Core.Bool.{Bool, true, false, cond, _&&_, _||_, and-true, and-false, and-assoc, or-false, or-assoc}
 use mathlib.Core.List.{List, [], _∷_}
 use mathlib.Core.Path.{_≡_, refl, sym, ap, _∙_}
 use Prim.Native.Nat.{ℕ, zero, suc, _+_, _-_, _^_, _<_, _≤_}
@@ -119,14 +119,6 @@ module _ (low high : ℕ) (m : Marks) (x : Form) where
     not-low n h = has-ends n x ∙ simp (lt-leb (firstOf x) n (omega (arith, from-low)))
 
 -- ---- a list of elements
-or-assoc : (a b c : Bool) → (a || b || c) ≡ (a || (b || c))
-or-assoc true b c = refl
-or-assoc false b c = refl
-
-and-assoc : (a b c : Bool) → (a && b && c) ≡ (a && (b && c))
-and-assoc true b c = refl
-and-assoc false b c = refl
-
 module _ (low high : ℕ) where
   pub over-good : (m : Marks) (xs : List Form) → marksOver low high m xs .good ≡ (m .good && allOf (elementInRange low high) xs)
   unfolding marksOver

@@ -2,7 +2,7 @@
 use mathlib.Core.Bool.{Bool, true, false, and-false}
 use mathlib.Core.List.{List, [], _∷_, _++_}
 use mathlib.Core.Option.{Option, none, some}
-use mathlib.Core.Path.{_≡_, refl, sym, ap, _∙_}
+use mathlib.Core.Path.{_≡_, refl, ap, _∙_}
 use Prim.Native.Nat.{ℕ, _+_, _<_, _≤_}
 use native.Mathlib.Omega.{arith}
 use borrow.Author.Tests.{eqb-true}
@@ -78,9 +78,9 @@ list-read none = refl
 list-read (some r) = refl
 
 module _ (s : List ℕ) (at : ℕ) (tail : List ℕ) (stops : FieldStops tail) where
-  list-case : (p : List ℕ) → drop at s ≡ p ++ tail → at ≤ length s → eqb (getD s at 0) 42 ≡ false → sameBytes p (42 ∷ []) ≡ false → Tied (fieldOf p) (fieldRead s at) at (at + length p)
+  list-case : (p : List ℕ) → drop at s ≡ p ++ tail → eqb (getD s at 0) 42 ≡ false → sameBytes p (42 ∷ []) ≡ false → Tied (fieldOf p) (fieldRead s at) at (at + length p)
   unfolding fieldRead elementsAt
-  list-case p here h e f =
+  list-case p here e f =
       let l : length p < length s + 1 = omega (arith, ap length here, length-append p tail, length-drop at s) in
       let t = list-tied (λ (e : ℕ). elementRead (elementAt s e)) 44 s elementOf Stop after-comma (λ at p tail here stop. element-tied s at p tail here (stop .0) (stop .1)) tail (stops .digits, stops .dash) (stops .comma) (length s + 1) at p here l in
       rw (e, list-read (elementsAt s (length s + 1) at), list-form p (eachOf elementOf (pieces 44 p)) refl f) (tied-made list _ _ at at _ (omega arith) t)
@@ -92,9 +92,9 @@ module _ (s : List ℕ) (at : ℕ) (tail : List ℕ) (stops : FieldStops tail) w
       (tied-by form star (at + 1) at (at + length p) (omega arith) true (λ g. omega arith) (λ g (q : at + 1 ≡ at + length p). all (omega arith)) (λ g q. part (λ (n : length p ≡ 1). q (omega arith)))
       (λ g. let z : _≡_ {A = ℕ} 0 1 = cc in absurd (omega arith)))
 
-  pub field-tied : (p : List ℕ) → drop at s ≡ p ++ tail → at ≤ length s → Tied (fieldOf p) (fieldRead s at) at (at + length p)
-  field-tied [] here h = list-case [] here h (ap (λ (x : ℕ). eqb x 42) (first-byte s at tail here) ∙ stops .star) empty-other
-  field-tied (c ∷ q) here h = by-byte (eqb c 42) refl
+  pub field-tied : (p : List ℕ) → drop at s ≡ p ++ tail → Tied (fieldOf p) (fieldRead s at) at (at + length p)
+  field-tied [] here = list-case [] here (ap (λ (x : ℕ). eqb x 42) (first-byte s at tail here) ∙ stops .star) empty-other
+  field-tied (c ∷ q) here = by-byte (eqb c 42) refl
     where
       byte : getD s at 0 ≡ c
       byte = first-byte s at ((c ∷ q) ++ tail) here
@@ -105,4 +105,4 @@ module _ (s : List ℕ) (at : ℕ) (tail : List ℕ) (stops : FieldStops tail) w
 
       by-byte : (b : Bool) → eqb c 42 ≡ b → Tied (fieldOf (c ∷ q)) (fieldRead s at) at (at + length (c ∷ q))
       by-byte true e = rw (eqb-true c 42 e) (after-star (ap (λ (x : ℕ). eqb x 42) byte ∙ e) q)
-      by-byte false e = list-case (c ∷ q) here h (ap (λ (x : ℕ). eqb x 42) byte ∙ e) (other-byte c q e)
+      by-byte false e = list-case (c ∷ q) here (ap (λ (x : ℕ). eqb x 42) byte ∙ e) (other-byte c q e)

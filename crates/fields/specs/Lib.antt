@@ -2,3 +2,4 @@
 pub mod Elements
 pub mod Marked
 pub mod Fields
+pub mod Crons

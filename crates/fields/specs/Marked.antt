@@ -5,6 +5,7 @@ use mathlib.Core.Option.{Option, none, some}
 use Prim.Native.Nat.{ℕ, _+_, _-_, _^_}
 use lib.Bits.{bitOr}
 use lib.Dec.{leb}
+use Rattle.lines.specs.Bytes.{byte}
 use Rattle.sheet.specs.Form.{Element as Form, one, range}
 use Rattle.words.specs.Lists.{listAt}
 use Rattle.words.specs.Reads.{cursor}
@@ -34,7 +35,7 @@ marksOver low high m (x ∷ xs) = marksOver low high (marksOf low high m x) xs
 
 -- the elements from a place on
 unfoldable pub elementsAt : List ℕ → ℕ → ℕ → Option (List Form × ℕ)
-elementsAt s left at = listAt (λ (e : ℕ). elementRead (elementAt s e)) 44 s left at
+elementsAt s left at = listAt (λ (e : ℕ). elementRead (elementAt s e)) (byte ",") s left at
 
 abbrev pub listedAs : ℕ → ℕ → Marks → Option (List Form × ℕ) → Listed
 listedAs low high m none = Listed.Not

@@ -10,7 +10,7 @@ use Rattle.words.proofs.Counting.{byte-within}
 use Rattle.fields.specs.Elements.{elementAt}
 use Rattle.fields.specs.Marked.{elementMarks}
 use Rattle.fields.proofs.Marking.{marks-not, marks-is, list-not, list-last, list-next, place-after}
-use Prim.Native.Nat.{ℕ, _+_, _-_, _<_}
+use Prim.Native.Nat.{ℕ, _-_, _<_}
 use borrow.Fn.Kinds.{In}
 use borrow.Fn.PlainCycle.{Measures, is, falls, and}
 use Rattle.fields.proofs.list.list_from.Reads as list-from

@@ -1,0 +1,92 @@
+// "five cron fields, one space between"
+ghost use mathlib.Core.Bool.{cond};
+ghost use mathlib.Core.Path.{_≡_};
+ghost use Prim.Native.Nat.{_+_};
+ghost use Rattle.fields.specs.Crons.{partAs, spaceAfter, cronRead, fiveAs};
+use crate::field::DayOfMonth;
+use crate::field::DayOfWeek;
+use crate::field::Field;
+use crate::field::Hour;
+use crate::field::Minute;
+use crate::field::Month;
+use frames::Cron;
+use words::cursor::Cursor;
+use words::cursor::SPACE;
+
+// The frame of five fields and the place after them; a number out of range, once all five are of the form; or no five fields.
+pub enum Five {
+    Is(Cron, Cursor),
+    Outside(Cursor),
+    Not,
+}
+
+enum Part {
+    // A field's mask, whether it is restricted, whether every number up to its end is in range, and where to read on.
+    Is(u64, bool, bool, Cursor),
+    Not,
+}
+
+// A field after others that were good or not. A number out of range does not end the reading: a later form error comes first.
+fn part_of(field: Field, good: bool) -> Part
+    ensures { λ r. ⌜ r ≡ partAs good field ⌝ }
+{
+    match field {
+        Field::Is(mask, restricted, next) => Part::Is(mask, restricted, good, next),
+        Field::Outside(next) => Part::Is(0, false, false, next),
+        Field::Not => Part::Not,
+    }
+}
+
+// The same with one space after the field.
+fn spaced(s: &[u8], field: Field, good: bool) -> Part
+    ensures { λ r. ⌜ r ≡ spaceAfter (now (s .entry)) (partAs good field) ⌝ }
+{
+    let Part::Is(mask, restricted, all_good, next) = part_of(field, good) else {
+        return Part::Not;
+    };
+    if next.byte(s) != SPACE {
+        return Part::Not;
+    }
+    Part::Is(mask, restricted, all_good, Cursor { at: next.at + 1 })
+}
+
+// "flags 1 (bit 0 day of month restricted, bit 1 day of week restricted)"
+fn flags(days: bool, weekdays: bool) -> u64
+    ensures { λ r. ⌜ r ≡ cond days 1 0 + cond weekdays 2 0 ⌝ }
+{
+    let first = if days { 1 } else { 0 };
+    if weekdays { first + 2 } else { first }
+}
+
+pub fn five_at(s: &[u8], c: Cursor) -> Five
+    ensures { λ r. ⌜ r ≡ fiveAs (cronRead (now (s .entry)) (c .at)) ⌝ }
+{
+    let Part::Is(minutes, _, good, next) = spaced(s, Minute::minute(s, c), true) else {
+        return Five::Not;
+    };
+    let Part::Is(hours, _, good, next) = spaced(s, Hour::hour(s, next), good) else {
+        return Five::Not;
+    };
+    let Part::Is(days, day, good, next) = spaced(s, DayOfMonth::day_of_month(s, next), good) else {
+        return Five::Not;
+    };
+    let Part::Is(months, _, good, next) = spaced(s, Month::month(s, next), good) else {
+        return Five::Not;
+    };
+    let Part::Is(weekdays, weekday, good, next) = part_of(DayOfWeek::day_of_week(s, next), good)
+    else {
+        return Five::Not;
+    };
+    if !good {
+        return Five::Outside(next);
+    }
+    let frame = Cron {
+        minutes,
+        hours,
+        days,
+        months,
+        weekdays,
+        flags: flags(day, weekday),
+    };
+    Five::Is(frame, next)
+}
