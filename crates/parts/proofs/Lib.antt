@@ -8,7 +8,6 @@ pub mod Whole
 pub mod Setting
 pub mod Marking
 pub mod Answers
-pub mod Until
 pub mod Listed
 pub mod Gathered
 pub mod Parting

@@ -9,3 +9,4 @@ pub mod Sequence
 pub mod Choices
 pub mod Folding
 pub mod Values
+pub mod Told

@@ -1,0 +1,32 @@
+// "Over 256 bytes, or a byte outside 20 to 7E."
+ghost use mathlib.Core.Path.{_≡_};
+ghost use Rattle.sheet.specs.Refusals.{bytesGood};
+use calendar::num::lies_within;
+
+const MOST_BYTES: usize = 256;
+
+const LOWEST: u64 = 32;
+
+const HIGHEST: u64 = 126;
+
+fn wide(c: u8) -> u64
+    ensures { λ r. ⌜ r ≡ c ⌝ }
+{
+    c as u64
+}
+
+pub(crate) fn good(line: &[u8]) -> bool
+    ensures { λ r. ⌜ r ≡ bytesGood (now (line .entry)) ⌝ }
+{
+    if MOST_BYTES < line.len() {
+        return false;
+    }
+    let mut i: usize = 0;
+    while i < line.len() {
+        if !lies_within(LOWEST, HIGHEST, wide(line[i])) {
+            return false;
+        }
+        i += 1;
+    }
+    true
+}
