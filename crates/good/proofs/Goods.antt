@@ -68,7 +68,7 @@ day-found l d h =
     (λ (e : leastDay l d (d + 1) ≡ d). eq-eqb (leastDay l d (d + 1)) d e ∙ sym (this-day l d h e))
     (λ (n : leastDay l d (d + 1) ≡ d → ⊥). ne-eqb (leastDay l d (d + 1)) d n ∙ sym (not-this-day l d h n))
 
-rule-row-day : (f : Rule) (d : ℕ) → dayHeld (rowOf (Frame.Rule f)) d ≡ ruleDay f d
+pub rule-row-day : (f : Rule) (d : ℕ) → dayHeld (rowOf (Frame.Rule f)) d ≡ ruleDay f d
 unfolding rowOf dayHeld
 rule-row-day f d = refl
 

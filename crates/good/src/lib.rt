@@ -9,7 +9,7 @@ use zone::limits;
 
 mod bits;
 mod cron;
-mod rule;
+pub mod rule;
 
 // Whether a frame's numbers are allowed, wherever it stands.
 pub fn frame_good(frame: Frame) -> bool

@@ -1,8 +1,8 @@
 // A rule frame's frequency, limits, interval and start.
+ghost use mathlib.Core.Bool.{_&&_};
 ghost use mathlib.Core.Path.{_≡_};
-ghost use Prim.Native.Nat.{_/_, _<_};
-ghost use Rattle.calendar.specs.Window.{dayMinutes, windowMinutes};
-ghost use Rattle.frames.specs.Rule.{ruleDay};
+ghost use Rattle.frames.specs.Rule.{ruleOccurs};
+ghost use Rattle.zone.specs.Zone.{inWindow};
 ghost use Rattle.plan.specs.Taken.{ordinalsGood, placesGood, frequencyGood, ruleGood};
 use crate::bits::only_bits;
 use crate::bits::pair_good;
@@ -80,11 +80,13 @@ fn frequency_good(f: Rule) -> bool
     false
 }
 
-// Whether a rule holds the day of its start.
-fn start_held(f: Rule) -> bool
-    requires { ⌜ f .start < windowMinutes ⌝ }
-    ensures { λ r. ⌜ r ≡ ruleDay f (f .start / dayMinutes) ⌝ }
+// Whether the start is an occurrence.
+pub fn start_held(f: Rule) -> bool
+    ensures { λ r. ⌜ r ≡ (inWindow (f .start) && ruleOccurs f (f .start)) ⌝ }
 {
+    if window::MINUTES <= f.start {
+        return false;
+    }
     let day = f.start / window::DAY;
     let row = text::row_of(Frame::Rule(f));
     ranges::least_day(&row, day, day + 1) == day

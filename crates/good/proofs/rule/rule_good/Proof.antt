@@ -1,11 +1,13 @@
 -- The tests of the definition, one after the other.
 use mathlib.Core.Bool.{true}
-use mathlib.Core.Path.{_≡_}
+use mathlib.Core.Path.{_≡_, _∙_}
+use native.Mathlib.Omega.{arith}
 use borrow.Author.Needs.{needs}
 use borrow.Author.Tests.{lt-ltb, le-ltb, le-leb, lt-leb}
 use Rattle.calendar.specs.Below.{within}
+use Rattle.calendar.specs.Window.{windowMinutes}
 use Rattle.plan.specs.Taken.{placesGood, frequencyGood, ruleGood}
-use Rattle.good.proofs.Goods.{stopped, passed, start-occurs}
+use Rattle.good.proofs.Goods.{stopped, passed}
 use Rattle.good.proofs.rule.rule_good.Statement.{statement}
 use Rattle.good.proofs.rule.rule_good.Tie as tie
 
@@ -73,7 +75,7 @@ returns-6 c =
     let d = e .before .before in
     let b = d .before .before in
     let a = b .before .before in
-    rw (frequency a, places b, interval d, lt-ltb _ _ (e .if4 .left), le-leb _ _ (g .if5 .left), start-occurs) (c .start-held .ensures)
+    rw (frequency a, places b, interval d, lt-ltb _ _ (e .if4 .left), le-leb _ _ (g .if5 .left)) (c .start-held .ensures ∙ rw (lt-ltb (a .before .before .args .f .start) windowMinutes (omega arith)))
 
 pub rule-good-spec : {M : Type 1} → statement M
 rule-good-spec =

@@ -1,0 +1,165 @@
+-- The frame of parts that go together, but for *last*, is the frame of the rule.
+use mathlib.Core.Bool.{Bool, true, false, cond, not, _&&_, _||_, false≢true}
+use mathlib.Core.List.{List}
+use mathlib.Core.Option.{Option, none, some, Option·getD}
+use mathlib.Core.Path.{_≡_, refl, sym, ap, ap₂, _∙_}
+use Prim.Native.Nat.{ℕ, _/_, _^_}
+use borrow.Author.Tests.{not-true}
+use lib.Dec.{eqb}
+use Rattle.calendar.specs.Window.{localDate, localWeekday, dayMinutes, windowLast}
+use Rattle.framed.proofs.Days.{withLast}
+use Rattle.framed.proofs.Sets.{ordinalsFor, positionsFor}
+use Rattle.framed.specs.Framed.{nothing, endsOf, weekdaysOf, daysOf, frequencyNumber, ruleFrame}
+use Rattle.frames.proofs.MonthSets.{both-true}
+use Rattle.frames.specs.declared.Ends.{Ends}
+use Rattle.frames.specs.declared.Rule.{Rule}
+use Rattle.parts.specs.Given.{daysFrom, numbersFrom, partsGiven}
+use Rattle.parts.specs.Values.{weekdaysGiven, numbersGiven}
+use Rattle.parts.specs.declared.given.Parts.{Parts}
+use Rattle.sheet.specs.Form.{Entry, Frequency, daily, weekly, monthly, Part}
+use Rattle.sheet.specs.Parts.{Given, givenOf, isGiven, givenTwice, ordinals, clashing, byFrequency, partsTogether}
+use Rattle.sheet.specs.Words.{Signed}
+use Rattle.rules.specs.Ruled.{weekdaysIn, daysIn, endless}
+use Rattle.rules.proofs.Going.{frequency-in}
+
+weekdays-is : (f : Frequency) (o : Option (List Entry)) (first : ℕ)
+    → cond (eqb (frequencyNumber f) 2 && not (daysFrom o .given)) (2 ^ localWeekday first) (daysFrom o .plain) ≡ weekdaysOf f o first
+unfolding weekdaysOf weekdaysGiven
+weekdays-is daily none first = refl
+weekdays-is daily (some es) first = refl
+weekdays-is weekly none first = refl
+weekdays-is weekly (some es) first = refl
+weekdays-is monthly none first = refl
+weekdays-is monthly (some es) first = refl
+
+abbrev daysFor : Frequency → Option (List Entry) → Option (List Signed) → ℕ → Ends
+daysFor daily days monthDays first = elim monthDays [ none ↦ nothing | some ns ↦ endsOf ns ]
+daysFor weekly days monthDays first = nothing
+daysFor monthly days monthDays first =
+    elim monthDays [
+      | none ↦ elim days [ none ↦ record { front = 2 ^ localDate first .day; back = 0 } | some es ↦ nothing ]
+      | some ns ↦ endsOf ns
+    ]
+
+days-for : (f : Frequency) (g : Given) (first : ℕ) → daysOf f g first ≡ daysFor f (g .days) (g .monthDays) first
+unfolding daysOf
+days-for daily g first = refl
+days-for weekly g first = refl
+days-for monthly g first = refl
+
+abbrev withNumbers : Frequency → Option (List Entry) → Option (List Signed) → ℕ → Ends
+withNumbers f days monthDays first =
+    cond (eqb (frequencyNumber f) 3 && (not (daysFrom days .given) && not (numbersFrom monthDays .given))) (record { front = 2 ^ localDate first .day; back = 0 })
+    (record { front = numbersFrom monthDays .front; back = numbersFrom monthDays .back })
+
+days-are : (f : Frequency) (days : Option (List Entry)) (monthDays : Option (List Signed)) (first : ℕ) → (eqb (frequencyNumber f) 2 && isGiven monthDays) ≡ false
+    → withNumbers f days monthDays first ≡ daysFor f days monthDays first
+unfolding weekdaysGiven numbersGiven
+days-are daily days none first e = refl
+days-are daily days (some ns) first e = refl
+days-are weekly days none first e = refl
+days-are weekly days (some ns) first e = absurd (false≢true (sym e))
+days-are monthly none none first e = refl
+days-are monthly (some es) none first e = refl
+days-are monthly none (some ns) first e = refl
+days-are monthly (some es) (some ns) first e = refl
+
+ordinals-are : (o : Option (List Entry)) → _≡_ {A = Ends} (record { front = daysFrom o .front; back = daysFrom o .back }) (ordinalsFor o)
+unfolding weekdaysGiven
+ordinals-are none = refl
+ordinals-are (some es) = refl
+
+positions-are : (o : Option (List Signed)) → _≡_ {A = Ends} (record { front = numbersFrom o .front; back = numbersFrom o .back }) (positionsFor o)
+unfolding numbersGiven
+positions-are none = refl
+positions-are (some ns) = refl
+
+-- "BYMONTHDAY with WEEKLY" don't go together
+no-month-days : (f : Frequency) (g : Given) → clashing f g ≡ false → (eqb (frequencyNumber f) 2 && isGiven (g .monthDays)) ≡ false
+unfolding clashing
+no-month-days daily g e = refl
+no-month-days weekly g e = third (ordinals (g .days)) (isGiven (g .positions)) (isGiven (g .monthDays)) e
+  where
+    third : (a b c : Bool) → (a || (b || c)) ≡ false → c ≡ false
+    third true b c e = absurd (false≢true (sym e))
+    third false true c e = absurd (false≢true (sym e))
+    third false false c e = e
+no-month-days monthly g e = refl
+
+module _ (ps : List Part) (start : ℕ) where
+  abbrev g : Given
+  g = givenOf ps
+
+  abbrev p : Parts
+  p = partsGiven ps
+
+  abbrev first : ℕ
+  first = start / dayMinutes
+
+  abbrev frame : ℕ → ℕ → Ends → Ends → Ends → Rule
+  frame frequency weekdays days ordinals positions =
+      record {
+        frequency = frequency;
+        interval = Option·getD (g .interval) 1;
+        start = start;
+        last = windowLast;
+        weekdays = weekdays;
+        days = days;
+        ordinals = ordinals;
+        positions = positions;
+      }
+
+  abbrev ordinalsIn : Ends
+  ordinalsIn = record { front = p .weekdays .front; back = p .weekdays .back }
+
+  abbrev positionsIn : Ends
+  positionsIn = record { front = p .positions .front; back = p .positions .back }
+
+  ordinals-in : ordinalsIn ≡ ordinalsFor (g .days)
+  unfolding partsGiven
+  ordinals-in = ordinals-are (g .days)
+
+  positions-in : positionsIn ≡ positionsFor (g .positions)
+  unfolding partsGiven
+  positions-in = positions-are (g .positions)
+
+  endless-in : endless p start ≡ frame (p .frequency) (weekdaysIn p first) (daysIn p first) ordinalsIn positionsIn
+  unfolding endless partsGiven
+  endless-in = refl
+
+  module _ (f : Frequency) (e : g .frequency ≡ some f) (c : clashing f g ≡ false) where
+    weekdays-in : weekdaysIn p first ≡ weekdaysOf f (g .days) first
+    unfolding weekdaysIn partsGiven
+    weekdays-in = rw (frequency-in ps (some f) e) (weekdays-is f (g .days) first)
+
+    days-in : daysIn p first ≡ daysOf f g first
+    unfolding daysIn partsGiven
+    days-in = rw (frequency-in ps (some f) e) (days-are f (g .days) (g .monthDays) first (no-month-days f g c) ∙ sym (days-for f g first))
+
+    frame-in : frame (frequencyNumber f) (weekdaysOf f (g .days) first) (daysOf f g first) (ordinalsFor (g .days)) (positionsFor (g .positions)) ≡ withLast windowLast (ruleFrame g start)
+    unfolding ruleFrame
+    frame-in =
+        ap
+        (λ (o : Option Frequency).
+        let h = Option·getD o daily in
+        frame (frequencyNumber h) (weekdaysOf h (g .days) first) (daysOf h g first) (ordinalsFor (g .days)) (positionsFor (g .positions)))
+        (sym e)
+
+    by-fields : frame (p .frequency) (weekdaysIn p first) (daysIn p first) ordinalsIn positionsIn
+        ≡ frame (frequencyNumber f) (weekdaysOf f (g .days) first) (daysOf f g first) (ordinalsFor (g .days)) (positionsFor (g .positions))
+    by-fields =
+        ap₂ (λ (q w : ℕ). frame q w (daysIn p first) ordinalsIn positionsIn) (frequency-in ps (some f) e) weekdays-in
+        ∙ ap (λ (d : Ends). frame (frequencyNumber f) (weekdaysOf f (g .days) first) d ordinalsIn positionsIn) days-in
+        ∙ ap₂ (λ (o s : Ends). frame (frequencyNumber f) (weekdaysOf f (g .days) first) (daysOf f g first) o s) ordinals-in positions-in
+
+  endless-by : (o : Option Frequency) → g .frequency ≡ o → byFrequency o g ≡ true → endless p start ≡ withLast windowLast (ruleFrame g start)
+  unfolding byFrequency
+  endless-by none e t = absurd (false≢true t)
+  endless-by (some f) e t = let c = not-true (clashing f g) t in endless-in ∙ by-fields f e c ∙ frame-in f e c
+
+  -- parts that go together
+  pub endless-is : partsTogether ps ≡ true → endless p start ≡ withLast windowLast (ruleFrame g start)
+  unfolding partsTogether
+  endless-is t =
+      endless-by (g .frequency) refl
+      (both-true (not (isGiven (g .count) && isGiven (g .until))) _ (both-true (not (givenTwice ps)) _ t .1) .1)

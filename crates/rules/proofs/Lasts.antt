@@ -1,0 +1,45 @@
+-- *Last* by the days of a rule.
+use mathlib.Core.Bool.{Bool, cond}
+use mathlib.Core.Path.{_≡_, sym, ap, _∙_}
+use Prim.Native.Nat.{ℕ, _+_, _-_, _*_, _/_, _%_, _<_, _≤_}
+use native.Mathlib.Omega.{arith}
+use borrow.Author.Tests.{le-ltb}
+use lib.Dec.{ltb}
+use Rattle.calendar.proofs.Windows.{local-date-holds, month-days-range}
+use Rattle.calendar.specs.Window.{localDate, dayMinutes, windowDays, windowLast}
+use Rattle.count.proofs.Nths.{nth-along}
+use Rattle.days.specs.Search.{nthFrom, nthDay}
+use Rattle.frames.specs.Numbers.{dayHeld}
+use Rattle.frames.specs.Rule.{ruleDay}
+use Rattle.frames.specs.declared.Rule.{Rule}
+use Rattle.good.proofs.Goods.{rule-row-day}
+use Rattle.plan.specs.Rows.{rowOf}
+use Rattle.plan.specs.declared.Frame.{Frame}
+use Rattle.zone.proofs.Good.{by-order}
+use Rattle.rules.specs.Ruled.{countLast}
+
+-- a day of month, 0 past the window, is a bit of a mask
+day-past : (n : ℕ) → windowDays ≤ n → localDate n .day < 64
+unfolding localDate
+day-past n h = rw (le-ltb n windowDays h) (omega arith)
+
+pub day-fits : (n : ℕ) → localDate n .day < 64
+day-fits n =
+    by-order n windowDays
+    (λ (h : n < windowDays).
+    let a = local-date-holds n h in
+    omega (arith, a .high, month-days-range (localDate n .month) (a .last) .1))
+    (day-past n)
+
+-- the c-th that passes is the same of two tests that agree
+pub nth-same : (test other : ℕ → Bool) (c k i : ℕ) → ((j : ℕ) → i ≤ j → j < i + k → test j ≡ other j) → nthFrom test c k i ≡ nthFrom other c k i
+nth-same test other c k i e = let a = nth-along test other c k i i (λ x h. e (i + x) (omega arith) (omega arith)) in omega (arith, a)
+
+-- *last* by the day that the search over the frame's row finds
+pub count-last-by : (f : Rule) (c d : ℕ) → d ≡ nthDay (rowOf (Frame.Rule f)) c (f .start / dayMinutes)
+    → countLast f c ≡ cond (ltb d windowDays) (dayMinutes * d + f .start % dayMinutes) windowLast
+unfolding countLast nthDay
+count-last-by f c d e =
+    let first : ℕ = f .start / dayMinutes in
+    ap (λ (x : ℕ). cond (ltb x windowDays) (dayMinutes * x + f .start % dayMinutes) windowLast)
+    (sym (e ∙ nth-same (dayHeld (rowOf (Frame.Rule f))) (ruleDay f) c (windowDays - first) first (λ j l h. rule-row-day f j)))

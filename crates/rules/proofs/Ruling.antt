@@ -1,0 +1,134 @@
+-- What is made of the parts of a rule in numbers is what the sheet's rule is: its frame, or the refusal.
+use mathlib.Core.Bool.{Bool, true, false, cond, not, _&&_}
+use mathlib.Core.List.{List, [], _∷_}
+use mathlib.Core.Option.{Option, none, some, Option·getD}
+use mathlib.Core.Path.{_≡_, refl, ap, ap₂, _∙_}
+use Prim.Native.Nat.{ℕ, _+_, _-_, _*_, _/_, _%_, _<_}
+use native.Mathlib.Omega.{arith}
+use borrow.Author.Tests.{lt-ltb}
+use lib.Dec.{leb, ltb, eqb}
+use Rattle.calendar.specs.Below.{allOf}
+use Rattle.calendar.specs.Window.{dayMinutes, windowDays, windowMinutes, windowLast}
+use Rattle.days.specs.Search.{nthFrom}
+use Rattle.framed.proofs.Days.{day-with-last, rule-day}
+use Rattle.framed.proofs.Goods.{givenPasses, written}
+use Rattle.framed.specs.Framed.{lastOf, ruleFrame}
+use Rattle.frames.proofs.MonthSets.{both-true}
+use Rattle.frames.specs.Rule.{ruleDay, ruleOccurs}
+use Rattle.frames.specs.declared.Rule.{Rule}
+use Rattle.masks.proofs.Bits.{decided}
+use Rattle.parts.specs.Given.{countFrom, untilFrom, partsGiven}
+use Rattle.parts.specs.declared.given.Parts.{Parts}
+use Rattle.sheet.proofs.Times.{minute-in-window}
+use Rattle.sheet.specs.Form.{Time, daily, Part, freq, interval, count, until, byDay, byMonthDay, bySetPos, rule}
+use Rattle.sheet.specs.Meaning.{occursOn, occursAt}
+use Rattle.sheet.specs.Parts.{Given, givenOf, partsTogether}
+use Rattle.sheet.specs.Range.{timeInRange, minuteOf, partInRange, inRange}
+use Rattle.sheet.specs.Refusals.{startOccurs}
+use Rattle.rules.specs.Ruled.{endless, startIn, countLast, lastIn, endingAt, ruledFrom}
+use Rattle.rules.specs.declared.Ruled.{Ruled}
+use Rattle.rules.proofs.Framing.{endless-is}
+use Rattle.rules.proofs.Going.{together-is}
+use Rattle.rules.proofs.Lasts.{nth-same}
+
+-- ---- UNTIL is in range
+until-with : (p : Part) (ps : List Part) → partInRange p ≡ true → givenPasses timeInRange (givenOf ps .until) ≡ true → givenPasses timeInRange (givenOf (p ∷ ps) .until) ≡ true
+unfolding givenOf partInRange
+until-with (freq f) ps r e = e
+until-with (interval n) ps r e = e
+until-with (count n) ps r e = e
+until-with (until t) ps r e = r
+until-with (byDay es) ps r e = e
+until-with (byMonthDay ns) ps r e = e
+until-with (bySetPos ns) ps r e = e
+
+until-in-range : (ps : List Part) → allOf partInRange ps ≡ true → givenPasses timeInRange (givenOf ps .until) ≡ true
+unfolding givenOf
+until-in-range [] r = refl
+until-in-range (p ∷ ps) r = let a = both-true (partInRange p) (allOf partInRange ps) r in until-with p ps (a .0) (until-in-range ps (a .1))
+
+abbrev notBefore : Option Time → ℕ → Bool
+notBefore none m = true
+notBefore (some t) m = leb m (minuteOf t)
+
+until-after : (o : Option Time) (m : ℕ) → givenPasses timeInRange o ≡ true → cond (untilFrom o .given) (leb m (untilFrom o .number)) true ≡ notBefore o m
+until-after none m e = refl
+until-after (some t) m e = rw e refl
+
+abbrev lastBy : (ℕ → ℕ) → Option Time → Option ℕ → ℕ
+lastBy nth end most = elim end [ some t ↦ minuteOf t | none ↦ elim most [ none ↦ windowLast | some c ↦ nth c ] ]
+
+last-by : (nth : ℕ → ℕ) (end : Option Time) (most : Option ℕ) → givenPasses timeInRange end ≡ true
+    → cond (untilFrom end .given) (untilFrom end .number) (cond (countFrom most .given) (nth (countFrom most .number)) windowLast) ≡ lastBy nth end most
+last-by nth none none e = refl
+last-by nth none (some c) e = refl
+last-by nth (some t) most e = rw e refl
+
+-- ---- the frame's days are the rule's
+module _ (t : Time) (ps : List Part) (inside : inRange (rule t ps) ≡ true) (w : written (rule t ps) ≡ true) (go : partsTogether ps ≡ true) where
+  abbrev g : Given
+  g = givenOf ps
+
+  abbrev p : Parts
+  p = partsGiven ps
+
+  abbrev start : ℕ
+  start = minuteOf t
+
+  abbrev first : ℕ
+  first = start / dayMinutes
+
+  abbrev f : Rule
+  f = endless p start
+
+  abbrev day : ℕ → Bool
+  day = occursOn (Option·getD (g .frequency) daily) g first
+
+  in-window : start < windowMinutes
+  unfolding inRange
+  in-window = minute-in-window t (both-true (timeInRange t) (allOf partInRange ps) inside .0)
+
+  until-good : givenPasses timeInRange (g .until) ≡ true
+  unfolding inRange
+  until-good = until-in-range ps (both-true (timeInRange t) (allOf partInRange ps) inside .1)
+
+  day-in : (d : ℕ) → d < windowDays → ruleDay f d ≡ day d
+  day-in d h = ap (λ (r : Rule). ruleDay r d) (endless-is ps start go) ∙ day-with-last windowLast (ruleFrame g start) d ∙ rule-day t ps inside w d h
+
+  occurs-in : ruleOccurs f start ≡ occursAt g start start
+  unfolding ruleOccurs occursAt endless
+  occurs-in = ap (λ (b : Bool). b && eqb (start % dayMinutes) (start % dayMinutes)) (day-in first (omega (arith, in-window)))
+
+  start-is : startIn p f ≡ startOccurs (rule t ps)
+  unfolding startIn startOccurs endless partsGiven
+  start-is = rw (lt-ltb start windowMinutes in-window) (ap₂ _&&_ occurs-in (until-after (g .until) start until-good))
+
+  abbrev nthLast : ℕ → ℕ
+  nthLast c = let d = nthFrom day c (windowDays - first) first in cond (ltb d windowDays) (dayMinutes * d + start % dayMinutes) windowLast
+
+  count-last-is : (c : ℕ) → countLast f c ≡ nthLast c
+  unfolding countLast endless
+  count-last-is c =
+      ap (λ (d : ℕ). cond (ltb d windowDays) (dayMinutes * d + start % dayMinutes) windowLast)
+      (nth-same (ruleDay f) day c (windowDays - first) first (λ j l h. day-in j (omega (arith, in-window))))
+
+  last-is : lastIn p f ≡ lastOf g start
+  unfolding lastIn lastOf partsGiven
+  last-is =
+      ap (λ (l : ℕ). cond (untilFrom (g .until) .given) (untilFrom (g .until) .number) (cond (countFrom (g .count) .given) l windowLast)) (count-last-is (countFrom (g .count) .number))
+      ∙ last-by nthLast (g .until) (g .count) until-good
+
+  frame-is : endingAt (lastIn p f) f ≡ ruleFrame g start
+  unfolding ruleFrame
+  frame-is = ap₂ endingAt last-is (endless-is ps start go)
+
+module _ (t : Time) (ps : List Part) (inside : inRange (rule t ps) ≡ true) (w : written (rule t ps) ≡ true) where
+  pub ruled-is : ruledFrom (partsGiven ps) (minuteOf t)
+      ≡ cond (not (partsTogether ps)) Ruled.Apart (cond (not (startOccurs (rule t ps))) Ruled.NoStart (Ruled.Is (ruleFrame (givenOf ps) (minuteOf t))))
+  unfolding ruledFrom
+  ruled-is =
+      rw (together-is ps)
+      (decided (partsTogether ps)
+      (λ (y : partsTogether ps ≡ true).
+      rw y (ap₂ (λ (b : Bool) (r : Rule). cond (not b) Ruled.NoStart (Ruled.Is r)) (start-is t ps inside w y) (frame-is t ps inside w y)))
+      (λ (n : partsTogether ps ≡ false). rw n refl))

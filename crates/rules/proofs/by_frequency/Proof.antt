@@ -1,0 +1,47 @@
+-- The parts that go with the frequency that is given, and none of another.
+use mathlib.Core.Path.{sym}
+use Rattle.rules.proofs.Going.{daily-in, weekly-in, monthly-in, none-in}
+use borrow.Author.Needs.{needs}
+use Rattle.rules.proofs.by_frequency.Statement.{statement}
+use Rattle.rules.proofs.by_frequency.Tie as tie
+
+both-requires : tie.Need-both-requires
+both-requires c κs = search needs
+
+returns : tie.Need-returns
+returns c = rw (daily-in (c .before .before .before .before .before .before .before .before .args .p) (c .before .before .before .if1 .taken), c .both .ensures)
+
+both-requires-2 : tie.Need-both-requires-2
+both-requires-2 c κs = search needs
+
+both-requires-3 : tie.Need-both-requires-3
+both-requires-3 c κs = search needs
+
+returns-2 : tie.Need-returns-2
+returns-2 c = rw (weekly-in (c .before .before .before .before .before .before .before .before .before .before .before .before .args .p) (c .before .before .before .before .before .if2 .taken), c .both3 .ensures, c .before .both2 .ensures)
+
+both-requires-4 : tie.Need-both-requires-4
+both-requires-4 c κs = search needs
+
+both-requires-5 : tie.Need-both-requires-5
+both-requires-5 c κs = search needs
+
+returns-3 : tie.Need-returns-3
+returns-3 c = rw (monthly-in (c .before .before .before .before .before .before .before .before .before .before .before .before .before .args .p) (c .before .before .before .before .if3 .taken), c .both5 .ensures, c .before .both4 .ensures)
+
+returns-4 : tie.Need-returns-4
+returns-4 c = sym (none-in (c .before .before .before .before .before .before .before .before .before .args .p) (c .before .before .before .before .if1 .left) (c .before .before .if2 .left) (c .if3 .left))
+
+pub by-frequency-spec : {M : Type 1} → statement M
+by-frequency-spec =
+    tie.close
+    (tie.spec
+    both-requires
+    returns
+    both-requires-2
+    both-requires-3
+    returns-2
+    both-requires-4
+    both-requires-5
+    returns-3
+    returns-4)

@@ -1,0 +1,42 @@
+-- The frame is asked for its start, and then for *last*.
+use Rattle.good.proofs.Goods.{stopped, passed}
+use Rattle.rules.specs.Ruled.{ruledFrom}
+use borrow.Author.Needs.{needs}
+use Rattle.rules.proofs.rule_of.Statement.{statement}
+use Rattle.rules.proofs.rule_of.Tie as tie
+
+together-requires : tie.Need-together-requires
+together-requires c κs = search needs
+
+returns : tie.Need-returns
+unfolding ruledFrom
+returns c = rw (stopped (c .before .together .ensures) (c .if1 .taken))
+
+endless-requires : tie.Need-endless-requires
+endless-requires c κs = search needs
+
+start-in-requires : tie.Need-start-in-requires
+start-in-requires c κs = search needs
+
+returns-2 : tie.Need-returns-2
+unfolding ruledFrom
+returns-2 c = rw (passed (c .before .before .before .before .together .ensures) (c .before .before .before .if1 .left), ← c .before .before .endless .ensures, stopped (c .before .start-in .ensures) (c .if2 .taken))
+
+last-in-requires : tie.Need-last-in-requires
+last-in-requires c κs = search needs
+
+returns-3 : tie.Need-returns-3
+unfolding ruledFrom
+returns-3 c = rw (passed (c .before .before .before .before .before .together .ensures) (c .before .before .before .before .if1 .left), ← c .before .before .before .endless .ensures, passed (c .before .before .start-in .ensures) (c .before .if2 .left), c .last-in .ensures)
+
+pub rule-of-spec : {M : Type 1} → statement M
+rule-of-spec =
+    tie.close
+    (tie.spec
+    together-requires
+    returns
+    endless-requires
+    start-in-requires
+    returns-2
+    last-in-requires
+    returns-3)

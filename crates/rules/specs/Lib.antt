@@ -1,0 +1,2 @@
+-- The frame of a rule from its parts in numbers.
+pub mod Ruled

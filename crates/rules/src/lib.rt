@@ -1,0 +1,81 @@
+// A rule's frame from its parts in numbers and its start.
+ghost use mathlib.Core.Path.{_≡_};
+ghost use Rattle.rules.specs.Ruled.{byFrequencyIn, togetherIn, startIn, ruledFrom};
+use frames::Rule;
+use frames::kinds;
+use frames::truth::both;
+use good::rule::start_held;
+use parts::given::Parts;
+
+mod frame;
+mod last;
+
+pub enum Ruled {
+    Is(Rule),
+    // Refusal 6.
+    Apart,
+    // Refusal 8.
+    NoStart,
+}
+
+fn by_frequency(p: Parts) -> bool
+    ensures { λ r. ⌜ r ≡ byFrequencyIn p ⌝ }
+{
+    let weekdays = p.weekdays;
+    let days = p.days;
+    let positions = p.positions;
+    if p.frequency == kinds::DAILY {
+        return both(!weekdays.ordinal, !positions.given);
+    }
+    if p.frequency == kinds::WEEKLY {
+        return both(!weekdays.ordinal, both(!positions.given, !days.given));
+    }
+    if p.frequency == kinds::MONTHLY {
+        return !both(positions.given, both(!weekdays.given, !days.given));
+    }
+    false
+}
+
+// Whether the parts go together.
+pub fn together(p: Parts) -> bool
+    ensures { λ r. ⌜ r ≡ togetherIn p ⌝ }
+{
+    let count = p.count;
+    let until = p.until;
+    if p.twice {
+        return false;
+    }
+    if both(count.given, until.given) {
+        return false;
+    }
+    by_frequency(p)
+}
+
+fn start_in(p: Parts, f: Rule) -> bool
+    ensures { λ r. ⌜ r ≡ startIn p f ⌝ }
+{
+    let until = p.until;
+    if !start_held(f) {
+        return false;
+    }
+    if until.given {
+        return f.start <= until.number;
+    }
+    true
+}
+
+// The frame of a rule, or which refusal; outside the window no start is an occurrence.
+pub fn rule_of(p: Parts, start: u64) -> Ruled
+    ensures { λ r. ⌜ r ≡ ruledFrom p start ⌝ }
+{
+    if !together(p) {
+        return Ruled::Apart;
+    }
+    let f = frame::endless(p, start);
+    if !start_in(p, f) {
+        return Ruled::NoStart;
+    }
+    let mut r = f;
+    r.last = last::last_in(p, f);
+    Ruled::Is(r)
+}
