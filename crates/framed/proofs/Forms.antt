@@ -133,3 +133,6 @@ line-written (tag ∷ space ∷ s) = cond-passes written (eqb space (byte " ")) 
 
 pub form-written : (line : List ℕ) (f : Form) → formOf line ≡ some f → written f ≡ true
 form-written line f e = sym (ap (givenPasses written) e) ∙ line-written line
+
+pub rule-form-written : (ps : List (List ℕ)) (f : Form) → ruleOf ps ≡ some f → written f ≡ true
+rule-form-written ps f e = sym (ap (givenPasses written) e) ∙ rule-written ps

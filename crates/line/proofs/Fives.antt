@@ -5,22 +5,31 @@ use mathlib.Core.Option.{Option, none, some}
 use mathlib.Core.Path.{_≡_, refl, sym, ap, _∙_}
 use Prim.Native.Nat.{ℕ, _+_, _≤_}
 use native.Mathlib.Omega.{arith}
+use borrow.Author.Tests.{eqb-true, eqb-false}
 use lib.Dec.{eqb}
 use lib.ListN.{length, getD, drop}
 use Rattle.fields.proofs.Crons.{cron-tied}
 use Rattle.fields.specs.Crons.{cronRead, fiveAs}
 use Rattle.fields.specs.Fields.{fieldRead}
 use Rattle.fields.specs.declared.five.Five.{Five}
-use Rattle.framed.specs.Framed.{cronFrame}
+use Rattle.framed.specs.Framed.{cronFrame, frameOf}
 use Rattle.frames.specs.declared.Cron.{Cron}
+use Rattle.plan.specs.declared.Frame.{Frame}
 use Rattle.sheet.specs.Form.{Field, fieldOf, Form, cron, cronOf}
+use Rattle.sheet.specs.Place.{inPlace}
 use Rattle.sheet.specs.Range.{inRange}
+use Rattle.sheet.specs.Refusals.{together, limitsKept, startOccurs}
 use Rattle.sheet.specs.Words.{pieces, eachOf}
 use Rattle.words.proofs.Tied.{Tied}
 use Rattle.words.specs.Answers.{madeRead, thenAt}
 use Rattle.words.specs.Reads.{cursor}
 use Rattle.words.specs.declared.cursor.Cursor.{Cursor}
-use Rattle.line.proofs.Reading.{all-from, to-end}
+use Rattle.line.specs.Lined.{beforeAs, contextAs, linedForm, otherStands, standing}
+use Rattle.line.specs.declared.Context.{Context}
+use Rattle.line.specs.declared.Lined.{Lined}
+use Rattle.line.proofs.Placing.{cron-place}
+use Rattle.line.proofs.Reading.{all-from, to-end, lined-short, lined-whole}
+use Rattle.line.proofs.Refusing.{out-of-place, out-of-range, taken}
 
 pub five-tied : (s : List ℕ) → 2 ≤ length s → Tied (cronOf (eachOf fieldOf (pieces 32 (drop 2 s)))) (cronRead s 2) 2 (length s)
 five-tied s h = to-end s 2 h _ _ (cron-tied s 2 (drop 2 s) (all-from s 2))
@@ -106,3 +115,33 @@ module _ (s : List ℕ) (at : ℕ) where
           by-range true g e =
               (record { minute = m; hour = h; day = d; month = mo; weekday = w; read = ap (λ (k : ℕ). some (cron m h d mo w, k)) (sym (ap afterIn e)); range = g }, ap (λ (x : Five). frameIn x frame) e)
           by-range false g e = let z : _≡_ {A = ℕ} 0 1 = cc in absurd (omega arith)
+
+-- ---- the line by the answer
+module _ (c : Context) (form : Option Form) (o : Option (Form × ℕ)) (at end : ℕ) (t : Tied form o at end) (good : Bool) (x : Cursor) (a : FiveAre o good x) where
+  abbrev line : Form
+  line = cron (a .minute) (a .hour) (a .day) (a .month) (a .weekday)
+
+  stands : (b : Bool) → otherStands (c .before) ≡ b → inPlace (beforeAs (c .before)) line ≡ b
+  stands b e = cron-place (c .before) (a .minute) (a .hour) (a .day) (a .month) (a .weekday) ∙ e
+
+  lined-five : (answer : Lined) → (otherStands (c .before) ≡ true → answer ≡ linedForm (contextAs c) (some line)) → standing end (c .before) (x .at) answer ≡ linedForm (contextAs c) form
+  lined-five answer h = by-end (eqb (x .at) end) refl
+    where
+      by-place : (b : Bool) → otherStands (c .before) ≡ b → cond b answer (Lined.Refused 4) ≡ linedForm (contextAs c) (some line)
+      by-place true e = h e
+      by-place false e = out-of-place (contextAs c) line (stands false e)
+
+      by-end : (b : Bool) → eqb (x .at) end ≡ b → cond b (cond (otherStands (c .before)) answer (Lined.Refused 4)) (Lined.Refused 3) ≡ linedForm (contextAs c) form
+      by-end true e = by-place (otherStands (c .before)) refl ∙ lined-whole (contextAs c) form o at end t line (x .at) (a .read) (eqb-true (x .at) end e)
+      by-end false e = lined-short (contextAs c) form o at end t line (x .at) (a .read) (eqb-false (x .at) end e)
+
+module _ (c : Context) (form : Option Form) (o : Option (Form × ℕ)) (at end : ℕ) (t : Tied form o at end) (x : Cursor) where
+  pub lined-outside : FiveAre o false x → standing end (c .before) (x .at) (Lined.Refused 5) ≡ linedForm (contextAs c) form
+  lined-outside a = lined-five c form o at end t false x a (Lined.Refused 5) (λ e. out-of-range (contextAs c) (line c form o at end t false x a) (stands c form o at end t false x a true e) (a .range))
+
+  pub lined-cron : (frame : Cron) (a : FiveAre o true x) → frame ≡ cronFrame (a .minute) (a .hour) (a .day) (a .month) (a .weekday) → standing end (c .before) (x .at) (Lined.Is (Frame.Cron frame)) ≡ linedForm (contextAs c) form
+  unfolding together limitsKept startOccurs frameOf
+  lined-cron frame a f =
+      rw f
+      (lined-five c form o at end t true x a _
+      (λ e. taken (contextAs c) (line c form o at end t true x a) (stands c form o at end t true x a true e) (a .range) refl refl refl))

@@ -8,3 +8,4 @@ pub mod Fives
 pub mod Ruling
 pub mod Moments
 pub mod Passed
+pub mod Tagged

@@ -32,5 +32,8 @@ module _ (c : Context) (form : Option Form) (read : Option (Form × ℕ)) (at en
     unfolding linedForm
     lined-short n = rw (t .whole, r, whole-part (f, e) end n) refl
 
+    pub form-whole : e ≡ end → form ≡ some f
+    form-whole n = t .whole ∙ rw r (whole-all (f, e) end n)
+
     pub lined-whole : e ≡ end → linedForm c (some f) ≡ linedForm c form
-    lined-whole n = sym (ap (linedForm c) (t .whole ∙ rw r (whole-all (f, e) end n)))
+    lined-whole n = sym (ap (linedForm c) (form-whole n))

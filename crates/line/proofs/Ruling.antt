@@ -1,5 +1,5 @@
 -- The line R: its form as it is read.
-use mathlib.Core.Bool.{false}
+use mathlib.Core.Bool.{Bool, true, false, cond, not}
 use mathlib.Core.List.{List, [], _∷_, _++_}
 use mathlib.Core.Option.{Option, none, some}
 use mathlib.Core.Path.{_≡_, refl, sym, ap, _∙_}
@@ -7,14 +7,29 @@ use Prim.Native.Nat.{ℕ, _+_, _≤_}
 use native.Mathlib.Omega.{arith}
 use lib.Dec.{eqb}
 use lib.ListN.{length, getD, drop}
+use Rattle.framed.proofs.Goods.{written}
+use Rattle.framed.specs.Framed.{ruleFrame, frameOf}
 use Rattle.parts.proofs.Whole.{PartStops, stops-nothing, stops-space, parts-tied}
 use Rattle.parts.specs.Given.{partsGiven, partsRead, partsAs}
 use Rattle.parts.specs.declared.given.Given.{Given}
 use Rattle.parts.specs.declared.given.Parts.{Parts}
+use Rattle.plan.specs.declared.Frame.{Frame}
+use Rattle.rules.proofs.Ruling.{ruled-is}
+use Rattle.rules.specs.Ruled.{ruledFrom}
+use Rattle.rules.specs.declared.Ruled.{Ruled}
 use Rattle.sheet.specs.Form.{Time, timeOf, Part, partOf, rule, ruleBy, ruleOf}
+use Rattle.sheet.specs.Parts.{givenOf, partsTogether}
+use Rattle.sheet.specs.Place.{inPlace}
+use Rattle.sheet.specs.Range.{minuteOf, inRange}
+use Rattle.sheet.specs.Refusals.{together, limitsKept, startOccurs}
 use Rattle.sheet.specs.Words.{pieces, eachOf}
 use Rattle.words.proofs.Tied.{made, Tied}
 use Rattle.words.specs.declared.cursor.Cursor.{Cursor}
+use Rattle.line.specs.Lined.{beforeAs, contextAs, linedForm, otherStands}
+use Rattle.line.specs.declared.Context.{Context}
+use Rattle.line.specs.declared.Lined.{Lined}
+use Rattle.line.proofs.Placing.{rule-place}
+use Rattle.line.proofs.Refusing.{not-together, no-start, taken}
 use Rattle.line.proofs.Timing.{Stop, over, space, timedRead, afterTime, timed-tied}
 
 abbrev pub partsOf : List ℕ → Option (List Part)
@@ -67,3 +82,26 @@ parts-are (some r) p c e =
 pub no-parts : (o : Option (List Part × ℕ)) → Given.Not ≡ partsAs o → o ≡ none
 no-parts none e = refl
 no-parts (some r) e = let z : _≡_ {A = ℕ} 0 1 = cc in absurd (omega arith)
+
+-- ---- the line by the frame or refusal of its rule
+unfoldable pub ruledLine : Ruled → Lined
+ruledLine (Ruled.Is f) = Lined.Is (Frame.Rule f)
+ruledLine Ruled.Apart = Lined.Refused 6
+ruledLine Ruled.NoStart = Lined.Refused 8
+
+module _ (c : Context) (t : Time) (ps : List Part) (p : otherStands (c .before) ≡ true) (r : inRange (rule t ps) ≡ true) (w : written (rule t ps) ≡ true) where
+  pub lined-rule : ruledLine (ruledFrom (partsGiven ps) (minuteOf t)) ≡ linedForm (contextAs c) (some (rule t ps))
+  unfolding ruledLine together limitsKept frameOf
+  lined-rule = ap ruledLine (ruled-is t ps r w) ∙ by-parts (partsTogether ps) refl
+    where
+      place : inPlace (beforeAs (c .before)) (rule t ps) ≡ true
+      place = rule-place (c .before) t ps ∙ p
+
+      by-start : (b : Bool) → startOccurs (rule t ps) ≡ b → partsTogether ps ≡ true → ruledLine (cond (not b) Ruled.NoStart (Ruled.Is (ruleFrame (givenOf ps) (minuteOf t)))) ≡ linedForm (contextAs c) (some (rule t ps))
+      by-start true s e = taken (contextAs c) (rule t ps) place r e refl s
+      by-start false s e = no-start (contextAs c) (rule t ps) place r e refl s
+
+      by-parts : (b : Bool) → partsTogether ps ≡ b
+          → ruledLine (cond (not b) Ruled.Apart (cond (not (startOccurs (rule t ps))) Ruled.NoStart (Ruled.Is (ruleFrame (givenOf ps) (minuteOf t))))) ≡ linedForm (contextAs c) (some (rule t ps))
+      by-parts true e = by-start (startOccurs (rule t ps)) refl e
+      by-parts false e = not-together (contextAs c) (rule t ps) place r e

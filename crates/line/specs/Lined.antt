@@ -45,3 +45,7 @@ abbrev pub otherStands : Before → Bool
 otherStands Before.Start = false
 otherStands (Before.Zoned k) = true
 otherStands Before.Lines = true
+
+-- an answer where the form ends with the line and may stand where it does
+abbrev pub standing : ℕ → Before → ℕ → Lined → Lined
+standing length before end answer = cond (eqb end length) (cond (otherStands before) answer (Lined.Refused 4)) (Lined.Refused 3)

@@ -6,6 +6,7 @@ use words::cursor::SPACE;
 
 mod bytes;
 mod places;
+mod schedules;
 mod times;
 mod zones;
 
@@ -53,4 +54,28 @@ pub struct Context {
 pub enum Lined {
     Is(Frame),
     Refused(u64),
+}
+
+// A line without its LF.
+pub fn read(line: &[u8], c: Context) -> Lined
+    ensures { λ r. ⌜ r ≡ lined (contextAs c) (now (line .entry)) ⌝ }
+{
+    if !bytes::good(line) {
+        return Lined::Refused(BYTES);
+    }
+    if line.len() < 2 {
+        return Lined::Refused(FORM);
+    }
+    if line[1] != SPACE {
+        return Lined::Refused(FORM);
+    }
+    match line[0] {
+        LETTER_Z => zones::zone_line(line, c),
+        LETTER_T => zones::change_line(line, c),
+        LETTER_C => schedules::cron_line(line, c),
+        LETTER_R => schedules::rule_line(line, c),
+        LETTER_D => times::time_line(line, c, false),
+        LETTER_X => times::time_line(line, c, true),
+        _ => Lined::Refused(FORM),
+    }
 }
