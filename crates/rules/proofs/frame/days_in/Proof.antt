@@ -1,6 +1,5 @@
 -- One day, that of the start, or those that are given.
 use mathlib.Core.Path.{sym, _∙_}
-use native.Mathlib.Omega.{arith}
 use Prim.Native.Nat.{_/_}
 use Rattle.calendar.specs.Window.{localDate}
 use Rattle.masks.proofs.Bits.{one-shifted}
@@ -20,7 +19,7 @@ local-date-requires : tie.Need-local-date-requires
 local-date-requires c κs = search needs
 
 shl-t11 : tie.Need-shl-t11
-shl-t11 c = rw (c .before .local-date .ensures) (omega (arith, day-fits (c .before .before .before .before .before .before .before .before .before .before .args .start / 1440)))
+shl-t11 c = rw (c .before .local-date .ensures) (day-fits _)
 
 returns : tie.Need-returns
 unfolding daysIn
