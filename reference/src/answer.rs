@@ -2,6 +2,7 @@
 //! Decimal numbers, single spaces; "A refusal answers its number [..] and zeros for every other number".
 
 use crate::answer_frames;
+use crate::answer_lines;
 use crate::answer_plans;
 use crate::dates;
 use crate::local::is_local_minute;
@@ -17,6 +18,7 @@ pub fn answer(request: &str) -> Option<String> {
     match name {
         "check" | "next" | "previous" | "local" => return answer_plans::answer(request),
         "rising" | "falling" | "nth" => return answer_frames::answer(request),
+        "line" => return answer_lines::answer(request),
         _ => {}
     }
     let numbers: Option<Vec<i64>> = words.map(|word| word.parse().ok()).collect();

@@ -6,7 +6,7 @@ usage: reference compare SUITE [--seed S] [--times N] [--patience SECONDS] -- DR
        reference dump meanings [--seed S] [--sheets N] [--plans N]
        reference answer
 
-  compare  sends the requests of SUITE (dates, zones, frames or plans) to the driver and compares its answers;
+  compare  sends the requests of SUITE (dates, zones, frames, lines or plans) to the driver and compares its answers;
            a driver that sends no further answer for SECONDS (60 where none are given) is killed and has failed
   dump     prints WHAT (dates, rules, cron or zones) for the programs in peers/, or sheets and plans with
            their answers for tools/try-meanings

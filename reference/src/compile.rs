@@ -9,9 +9,14 @@ use crate::sheet::CRON_FIELDS;
 /// "One frame a line: upper-case hex digits, LF."
 pub fn plan_text(lines: &[Line]) -> String {
     // "number of frames before it"
-    let end = vec![0xFF, lines.len() as u8];
-    let frames = lines.iter().map(frame).chain([end]);
-    frames.map(|bytes| frame_text(&bytes)).collect()
+    let end = [0xFF, lines.len() as u8];
+    let frames: String = lines.iter().map(line_text).collect();
+    frames + &frame_text(&end)
+}
+
+/// The frame of one line, with its LF.
+pub fn line_text(line: &Line) -> String {
+    frame_text(&frame(line))
 }
 
 fn frame_text(bytes: &[u8]) -> String {

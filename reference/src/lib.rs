@@ -3,9 +3,11 @@
 
 pub mod answer;
 pub mod answer_frames;
+pub mod answer_lines;
 pub mod answer_plans;
 pub mod cases_dates;
 pub mod cases_frames;
+pub mod cases_lines;
 pub mod cases_plans;
 pub mod cases_zones;
 pub mod command_line;
@@ -24,4 +26,5 @@ pub mod minutes;
 pub mod plan;
 pub mod random;
 pub mod sheet;
+pub mod shown;
 pub mod zone;

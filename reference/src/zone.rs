@@ -10,7 +10,7 @@ pub const OFFSETS: RangeInclusive<i64> = -720..=840;
 pub const MOST_TRANSITIONS: usize = 32;
 
 /// "each at least 2,880 minutes after the one before".
-const LEAST_DISTANCE: i64 = 2_880;
+pub const LEAST_DISTANCE: i64 = 2_880;
 
 /// "the new offset differs from the old by 1 to 180 minutes".
 const CHANGES: RangeInclusive<i64> = 1..=180;

@@ -19,9 +19,10 @@ pub fn nth_occurrence(rule: &Rule, count: i64) -> Option<i64> {
     unlimited(rule).nth(count as usize - 1)
 }
 
-/// "start not an occurrence of its rule (COUNT and UNTIL left out)".
+/// "start not an occurrence of its rule (COUNT and UNTIL left out)". "Period 0 holds the start", so no other is looked at.
 pub fn start_is_occurrence(rule: &Rule) -> bool {
-    unlimited(rule).next() == Some(rule.start)
+    let days = positions(rule, day_set(rule, period(rule, 0)));
+    days.contains(&day_of_minute(rule.start))
 }
 
 /// All occurrences, COUNT and UNTIL left out. "Drop what is before the start or after 2099."
@@ -92,10 +93,8 @@ fn is_in_set(rule: &Rule, day: i64) -> bool {
 /// "A weekday list matches if any entry does."
 fn weekday_matches(list: &[WeekdayEntry], day: i64) -> bool {
     list.iter().any(|entry| {
-        let place_matches = entry
-            .ordinal
-            .map_or(true, |ordinal| ordinals_of(day).contains(&ordinal));
-        entry.weekday == weekday(day) && place_matches
+        let place_matches = |ordinal| ordinals_of(day).contains(&ordinal);
+        entry.weekday == weekday(day) && entry.ordinal.map_or(true, place_matches)
     })
 }
 

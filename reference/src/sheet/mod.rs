@@ -52,7 +52,7 @@ pub fn read(sheet: &[u8]) -> Result<Vec<Line>, Refusal> {
     let mut lines = Vec::new();
     let mut bad_at = 0;
     for piece in pieces {
-        let taken = read_line(&lines, piece).map_err(|number| Refusal {
+        let taken = read_piece(&lines, piece).map_err(|number| Refusal {
             number,
             line: lines.len() as u64 + 1,
             bad_at,
@@ -64,9 +64,14 @@ pub fn read(sheet: &[u8]) -> Result<Vec<Line>, Refusal> {
     Ok(lines)
 }
 
-/// One line after those before it, or "the lowest of 2 to 8 that applies".
-fn read_line(before: &[Line], piece: &[u8]) -> Result<Line, u64> {
-    let text = text_of(piece).ok_or(2_u64)?;
+/// Refusal 2: "line without LF".
+fn read_piece(before: &[Line], piece: &[u8]) -> Result<Line, u64> {
+    read_line(before, piece.strip_suffix(b"\n").ok_or(2_u64)?)
+}
+
+/// One line, without its LF, after those before it, or "the lowest of 2 to 8 that applies".
+pub fn read_line(before: &[Line], line: &[u8]) -> Result<Line, u64> {
+    let text = text_of(line).ok_or(2_u64)?;
     let written = form::read(text).ok_or(3_u64)?;
     if !place::allows(before, &written) {
         return Err(4);
@@ -82,9 +87,8 @@ fn read_line(before: &[Line], piece: &[u8]) -> Result<Line, u64> {
     Ok(line)
 }
 
-/// Refusal 2: "line without LF, over 256 bytes, or a byte outside 20 to 7E".
-fn text_of(piece: &[u8]) -> Option<&str> {
-    let line = piece.strip_suffix(b"\n")?;
+/// Refusal 2: "over 256 bytes, or a byte outside 20 to 7E".
+fn text_of(line: &[u8]) -> Option<&str> {
     let all_named = line.iter().all(|byte| (0x20..=0x7E).contains(byte));
     if line.len() > MOST_LINE_BYTES || !all_named {
         return None;
