@@ -22,9 +22,11 @@ typedef enum { LENT_AFTER, LENT_BEFORE } lent_side;
 /* Lent bytes, and the pages about them. */
 typedef struct { void *bytes; uint8_t *pages; size_t room; } lent;
 
+/* It is the call that trapped and no output, so that what was answered can be sent: the request is the first without an answer. */
 static void lent_trapped(int number) {
     static const char text[] = LENT_DRIVER ": trapped: lent bytes were written, or memory outside them touched\n";
     (void)number;
+    fflush(stdout);
     if (write(STDERR_FILENO, text, sizeof text - 1) < 0) {
         _exit(4);
     }

@@ -190,18 +190,23 @@ fn faults_made_on_purpose() {
 fn the_suite_asks_enough() {
     let mut numbers: BTreeMap<u64, u64> = BTreeMap::new();
     let mut taken: BTreeMap<u8, u64> = BTreeMap::new();
+    let mut at_256: BTreeMap<u8, u64> = BTreeMap::new();
     let mut longest = 0;
     for case in cases(1, 1) {
         let number = number_of(&case);
         *numbers.entry(number).or_default() += 1;
         if number == 0 {
             *taken.entry(case.line[0]).or_default() += 1;
+            if case.line.len() == 256 {
+                *at_256.entry(case.line[0]).or_default() += 1;
+            }
         }
         longest = longest.max(case.line.len());
     }
-    println!("{numbers:?} {taken:?}");
+    println!("{numbers:?} {taken:?} {at_256:?}");
     assert!(numbers.values().sum::<u64>() >= 200_000);
     assert!(longest >= 100_000);
+    assert!(at_256[&b'C'] >= 6 && at_256[&b'R'] >= 6, "{at_256:?}"); // the kinds that can be so long
     for number in [0, 2, 3, 4, 5, 6, 7, 8] {
         assert!(numbers[&number] >= 2_000, "{number}: {numbers:?}");
     }

@@ -14,15 +14,25 @@ const LENGTHS: [usize; 17] = [
 type Long = (&'static str, &'static [&'static str], &'static str);
 
 /// Taken up to 256 bytes.
-const LISTS: [Long; 12] = [
+const LISTS: [Long; 14] = [
     ("C 1", &[",1", ",01"], " * * * *"),
     ("C 7 1-2", &[",1", ",01", ",13-17"], " * * *"),
     ("C * * 3", &[",3", ",31", ",1-31"], " 1 1"),
     ("C * * * 4", &[",4", ",04", ",1-12"], " 5"),
-    ("C 0-59 0-23 1-31 1-12 5", &[",5", ",005", ",0-6"], ""),
+    ("C 0-59 0-23 1-31 1-12 5", &[",5", ",05", ",0-6"], ""),
     ("C 1", &[",2-3", ",50", ",0"], " 0 1 1 0-6"),
     (
         "R 20260131T0600 FREQ=WEEKLY;BYDAY=SA",
+        &[",SU", ",SA", ",FR"],
+        "",
+    ),
+    (
+        "R 20260131T0600 FREQ=WEEKLY;INTERVAL=1;BYDAY=SA",
+        &[",SU", ",SA", ",FR"],
+        "",
+    ),
+    (
+        "R 20260131T0600 FREQ=WEEKLY;INTERVAL=001;BYDAY=SA",
         &[",SU", ",SA", ",FR"],
         "",
     ),
@@ -110,7 +120,7 @@ fn place_of(line: &str) -> Context {
     }
 }
 
-/// So many bytes if the entries can fill them, else a few less: the first entries fill the most of it, then those that fit.
+/// So many bytes if the entries can fill them, else a few less: entries in turn, and at the end those that fit.
 fn of_length((before, entries, after): &Long, length: usize) -> Vec<u8> {
     let mut line = before.to_string();
     let mut turn = 0;
@@ -118,7 +128,8 @@ fn of_length((before, entries, after): &Long, length: usize) -> Vec<u8> {
         let left = length.saturating_sub(line.len() + after.len());
         let in_turn = entries[turn % entries.len()];
         let fitting = entries.iter().find(|entry| entry.len() == left);
-        let small = entries.iter().find(|entry| entry.len() <= left);
+        let shortest = entries.iter().min_by_key(|entry| entry.len());
+        let small = shortest.filter(|entry| entry.len() <= left);
         match (fitting, small) {
             (Some(entry), _) => line.push_str(entry),
             (None, Some(_)) if in_turn.len() + 4 < left => line.push_str(in_turn),

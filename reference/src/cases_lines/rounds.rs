@@ -4,7 +4,7 @@ use super::damage::damaged;
 use super::rules::mixed;
 use super::{contexts, Case};
 use crate::answer_lines::Context;
-use crate::generate::{cron_line, large_set_rule_line, offset_text, rule_line};
+use crate::generate::{cron_line, edge_lines, large_set_rule_line, offset_text, rule_line};
 use crate::local::{written, LAST_MINUTE};
 use crate::random::Random;
 use crate::zone::LEAST_DISTANCE;
@@ -12,6 +12,7 @@ use crate::zone::LEAST_DISTANCE;
 /// Damaged copies of each line.
 const BYTES_DAMAGED: usize = 5;
 const WORDS_DAMAGED: usize = 4;
+const EDGES_DAMAGED: usize = 4;
 
 /// Lines that are asked as they are.
 const AS_GENERATED: [fn(&mut Random) -> String; 8] = [
@@ -56,6 +57,22 @@ pub fn round(random: &mut Random) -> Vec<Case> {
     }
     let counted = counted(random);
     all.push(Case::new(somewhere(random), counted));
+    all.extend(damaged_edges(random));
+    all
+}
+
+/// Lines at the edges, of which most are refused already, damaged.
+fn damaged_edges(random: &mut Random) -> Vec<Case> {
+    let edges = edge_lines();
+    let mut all = Vec::new();
+    for _ in 0..EDGES_DAMAGED {
+        let line = &edges[random.between(0, edges.len() as i64 - 1) as usize];
+        all.push(Case::new(
+            contexts::any(random),
+            damaged(line.as_bytes(), random),
+        ));
+        all.push(Case::new(contexts::any(random), with_a_word(line, random)));
+    }
     all
 }
 
