@@ -5,9 +5,14 @@ ghost use Rattle.zone.specs.Held.{offsetsOf};
 ghost use Rattle.zone.specs.Stretches.{stretchLocal};
 ghost use Rattle.held.specs.Lists.{firstOf, listLeast, listLast};
 ghost use Rattle.days.specs.Search.{nthDay};
-ghost use Rattle.probe.specs.Probed.{instantAnswer};
+ghost use Rattle.line.specs.Lined.{contextAs, lined};
+ghost use Rattle.probe.specs.Probed.{instantAnswer, contextOf, lineAnswer, lineBuffer};
 use frames::places::Row;
 use frames::places::Rows;
+use line::Before;
+use line::Context;
+use line::Lined;
+use plan::text;
 use zone::Zone;
 use zone::stretch;
 use zone::stretch::Instant;
@@ -61,4 +66,60 @@ pub extern "C" fn probe_nth_day(f: &Row, count: u64, low: u64) -> u64
     ensures { λ r. ⌜ r ≡ nthDay (now (f .entry)) count low ⌝ }
 {
     count::nth_day(f, count, low)
+}
+
+#[repr(C)]
+pub struct ProbeLine {
+    pub number: u64,
+    pub length: u64,
+}
+
+// What stands before a line, by numbers: 0 nothing, 1 a Z and so many T, any other number other lines.
+fn context_of(before: u64, changes: u64, low: u64, offset: u64) -> Context
+    ensures { λ r. ⌜ r ≡ contextOf before changes low offset ⌝ }
+{
+    if before == 0 {
+        return Context {
+            before: Before::Start,
+            low,
+            offset,
+        };
+    }
+    if before == 1 {
+        return Context {
+            before: Before::Zoned(changes),
+            low,
+            offset,
+        };
+    }
+    Context {
+        before: Before::Lines,
+        low,
+        offset,
+    }
+}
+
+// A sheet line without its LF: 0 and the frame's line at the buffer's front, or its refusal and the buffer as it was.
+#[no_mangle]
+pub extern "C" fn probe_line(
+    s: &[u8],
+    before: u64,
+    changes: u64,
+    low: u64,
+    offset: u64,
+    frame: &mut [u8],
+) -> ProbeLine
+    ensures { λ r. ⌜ (r ≡ lineAnswer (now (frame .entry)) (lined (contextAs (contextOf before changes low offset)) (now (s .entry)))) × (now (frame .exit) ≡ lineBuffer (now (frame .entry)) (lined (contextAs (contextOf before changes low offset)) (now (s .entry)))) ⌝ }
+{
+    let found = line::read(s, context_of(before, changes, low, offset));
+    match found {
+        Lined::Is(f) => {
+            let length = text::write(frame, 0, f);
+            ProbeLine {
+                number: 0,
+                length: length as u64,
+            }
+        }
+        Lined::Refused(number) => ProbeLine { number, length: 0 },
+    }
 }
