@@ -367,9 +367,15 @@ fn counts_from(day: i64, parts: &str) -> Vec<Case> {
         .unwrap_or_default()
 }
 
+/// At six, where the last day's occurrence is not the last minute of all, and at that minute.
 fn counts_on(day: i64, parts: &str) -> Vec<Case> {
-    let start = written(day * MINUTES_OF_A_DAY + 1_439);
-    let line = format!("R {start} {parts}");
+    let times = [360, MINUTES_OF_A_DAY - 1];
+    let starts = times.map(|time| written(day * MINUTES_OF_A_DAY + time));
+    let lines = starts.map(|start| format!("R {start} {parts}"));
+    lines.iter().flat_map(|line| with_counts(line)).collect()
+}
+
+fn with_counts(line: &str) -> Vec<Case> {
     let held = match read_line(&[Line::Zone(0)], line.as_bytes()) {
         Ok(Line::Rule(rule)) => occurrences(&rule).count() as i64,
         _ => return Vec::new(),
