@@ -9,3 +9,4 @@ pub mod Ruling
 pub mod Moments
 pub mod Passed
 pub mod Tagged
+pub mod Numbered

@@ -1,7 +1,7 @@
 -- The sheets hold what the document says: the definitions are computed.
 use mathlib.Core.Bool.{true}
 use mathlib.Core.Path.{_≡_, refl}
-use Rattle.sheet.specs.Cases.{caseH, caseI, caseJ, caseK, caseL, caseRange, casePlace, caseExcept}
+use Rattle.sheet.specs.Cases.{caseH, caseI, caseJ, caseK, caseL, caseRange, casePlace, caseExcept, caseRanks}
 use Rattle.sheet.specs.Open.{opened}
 
 pub h : caseH ≡ true
@@ -35,3 +35,7 @@ place = refl
 pub except : caseExcept ≡ true
 unfolding caseExcept opened
 except = refl
+
+pub ranks : caseRanks ≡ true
+unfolding caseRanks opened
+ranks = refl

@@ -11,7 +11,8 @@ use Rattle.zone.specs.Zone.{bias, instantOf}
 use Rattle.sheet.specs.Form.{Form}
 use Rattle.sheet.specs.Meaning.{sheetHeld, sheetZone}
 use Rattle.sheet.specs.Range.{minuteOf}
-use Rattle.sheet.specs.Refusals.{Sheet, taken, refused, readSheet}
+use Rattle.sheet.specs.Place.{start, zoned}
+use Rattle.sheet.specs.Refusals.{Sheet, taken, refused, readSheet, lineRefusal}
 
 -- the forms of a taken sheet's lines; a refused sheet has none
 abbrev pub formsOf : Sheet → List Form
@@ -95,3 +96,22 @@ casePlace = sheetHeld (sheet "Z +0000\nR 20260105T0600 FREQ=MONTHLY;BYDAY=MO,TU,
 unfoldable pub caseExcept : Bool
 caseExcept =
     eqb (heldDays (sheet "Z +0000\nR 20260131T0600 FREQ=MONTHLY;COUNT=3\nX 20260331T0600\n") 365 (minute 2026 1 1 6 0)) 2
+
+-- "in it the lowest of 2 to 8 that applies": a line as the first of its sheet, or after the example's first two
+first : String → ℕ
+first line = lineRefusal (record { before = start; low = 0; offset = 0 }) (bytes line)
+
+later : String → ℕ
+later line = lineRefusal (record { before = zoned 1; low = 13805340; offset = 1560 }) (bytes line)
+
+unfoldable pub caseRanks : Bool
+unfolding first later
+caseRanks =
+    eqb (first "C 60 * * *") 3
+    && (eqb (first "C 60 * * * *") 4
+    && (eqb (first "D 20260101T2400") 4
+    && (eqb (later "T 20260329T0159 +1401") 5
+    && (eqb (later "R 20260101T0600 COUNT=0") 5
+    && (eqb (later "R 20260101T0600 FREQ=DAILY;COUNT=2;UNTIL=20250101T0000") 6
+    && (eqb (later "T 20260329T0159 +0200") 7
+    && (eqb (later "R 20260101T0600 FREQ=DAILY;BYDAY=FR") 8 && eqb (later "R 20260101T0600 FREQ=DAILY;BYDAY=TH") 0)))))))

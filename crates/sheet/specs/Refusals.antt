@@ -73,12 +73,11 @@ formRefusal c f =
     (cond (not (inRange f)) 5
     (cond (not (together f)) 6 (cond (not (limitsKept c f)) 7 (cond (not (startOccurs f)) 8 0))))
 
-formRefusalOr3 : Context → Option Form → ℕ
+unfoldable pub formRefusalOr3 : Context → Option Form → ℕ
 formRefusalOr3 c none = 3
 formRefusalOr3 c (some f) = formRefusal c f
 
 unfoldable pub lineRefusal : Context → List ℕ → ℕ
-unfolding formRefusalOr3
 lineRefusal c line = cond (not (bytesGood line)) 2 (formRefusalOr3 c (formOf line))
 
 -- what a sheet is found to be: its lines' forms, or a refusal number with the number of a line

@@ -1,0 +1,48 @@
+-- A line's answer against the sheet's refusal number and its form.
+use mathlib.Core.Bool.{Bool, true, false, cond, not}
+use mathlib.Core.List.{List}
+use mathlib.Core.Option.{Option, none, some}
+use mathlib.Core.Path.{_≡_, refl, sym, ap, _∙_}
+use Prim.Native.Nat.{ℕ}
+use native.Mathlib.Omega.{arith}
+use borrow.Author.Tests.{eqb-true, eq-eqb}
+use lib.Dec.{eqb}
+use Rattle.framed.specs.Framed.{frameOf}
+use Rattle.sheet.specs.Form.{Form, formOf}
+use Rattle.sheet.specs.Refusals.{Context, bytesGood, formRefusal, formRefusalOr3, lineRefusal}
+use Rattle.line.specs.Lined.{linedForm, lined}
+use Rattle.line.specs.declared.Lined.{Lined}
+
+-- 0 with a frame, else the refusal number
+abbrev pub numberOf : Lined → ℕ
+numberOf (Lined.Is f) = 0
+numberOf (Lined.Refused n) = n
+
+module _ (c : Context) where
+  form-number : (o : Option Form) → numberOf (linedForm c o) ≡ formRefusalOr3 c o
+  unfolding linedForm formRefusalOr3
+  form-number none = refl
+  form-number (some f) = by-number (eqb (formRefusal c f) 0) refl
+    where
+      by-number : (b : Bool) → eqb (formRefusal c f) 0 ≡ b → numberOf (cond b (Lined.Is (frameOf f)) (Lined.Refused (formRefusal c f))) ≡ formRefusal c f
+      by-number true e = sym (eqb-true (formRefusal c f) 0 e)
+      by-number false e = refl
+
+  module _ (line : List ℕ) where
+    -- "in it the lowest of 2 to 8 that applies"
+    pub lined-number : numberOf (lined c line) ≡ lineRefusal c line
+    unfolding lined lineRefusal
+    lined-number = by-bytes (bytesGood line)
+      where
+        by-bytes : (b : Bool) → numberOf (cond b (linedForm c (formOf line)) (Lined.Refused 2)) ≡ cond (not b) 2 (formRefusalOr3 c (formOf line))
+        by-bytes true = form-number (formOf line)
+        by-bytes false = refl
+
+    -- "one frame for each sheet line": of a line that is taken, that of its form
+    pub lined-frame : lineRefusal c line ≡ 0 → (f : Form) → formOf line ≡ some f → lined c line ≡ Lined.Is (frameOf f)
+    unfolding lined linedForm lineRefusal formRefusalOr3
+    lined-frame z f e = by-bytes (bytesGood line) refl z
+      where
+        by-bytes : (b : Bool) → bytesGood line ≡ b → cond (not (bytesGood line)) 2 (formRefusalOr3 c (formOf line)) ≡ 0 → cond (bytesGood line) (linedForm c (formOf line)) (Lined.Refused 2) ≡ Lined.Is (frameOf f)
+        by-bytes true g z = let n : formRefusal c f ≡ 0 = rw (g, e) at z in rw (g, e, eq-eqb _ _ n) refl
+        by-bytes false g z = let n : _≡_ {A = ℕ} 2 0 = rw g at z in let y : _≡_ {A = ℕ} 0 1 = cc in absurd (omega arith)
