@@ -1,7 +1,7 @@
 -- A test that antt computes for every number below a limit, as a rule at each of them.
-use mathlib.Core.Bool.{Bool, true, false, _&&_}
+use mathlib.Core.Bool.{Bool, true, false, _&&_, false≢true}
 use mathlib.Core.Logic.{dite}
-use mathlib.Core.Path.{_≡_, subst}
+use mathlib.Core.Path.{_≡_, refl, subst}
 use Prim.Native.Nat.{ℕ, zero, suc, _<_}
 use native.Mathlib.Decide.{decLt}
 use native.Mathlib.Omega.{arith}
@@ -15,6 +15,11 @@ left false b t = t
 pub right : (a b : Bool) → T (a && b) → T b
 right true b t = t
 right false b t = absurd t
+
+-- two tests that both hold
+pub both-true : (a b : Bool) → (a && b) ≡ true → (a ≡ true) × (b ≡ true)
+both-true true b e = (refl, e)
+both-true false b e = absurd (false≢true e)
 
 pub every : (f : ℕ → Bool) (n : ℕ) → T (everyBelow f n) → (k : ℕ) → k < n → T (f k)
 every f zero t k h = absurd (omega arith)

@@ -7,12 +7,12 @@ use Prim.Native.Nat.{ℕ, _+_, _-_}
 use native.Mathlib.Omega.{arith}
 use lib.Dec.{eqb}
 use lib.ListN.{getD}
+use Rattle.calendar.proofs.Every.{both-true}
 use Rattle.framed.specs.Framed.{cronFrame}
 use Rattle.masks.specs.Masks.{maskFrom}
 use Rattle.sheet.specs.Form.{Field as Form, Form as Line, cron}
 use Rattle.sheet.specs.Meaning.{fieldHas, restricted}
 use Rattle.sheet.specs.Range.{fieldInRange, inRange}
-use Rattle.words.proofs.Tied.{both-true}
 use Rattle.words.specs.Answers.{madeRead, thenAt}
 use Rattle.words.specs.Reads.{cursor}
 use Rattle.words.specs.declared.cursor.Cursor.{Cursor}

@@ -9,6 +9,7 @@ use borrow.Author.Tests.{eq-eqb, ne-eqb, leb-true, le-leb, lt-leb, lt-ltb, le-lt
 use lib.Bits.{bitOr, or-lt}
 use lib.Dec.{leb, ltb}
 use lib.Pow.{pow-pos}
+use Rattle.calendar.proofs.Every.{both-true}
 use Rattle.calendar.specs.Below.{within, allOf, anyOf}
 use Rattle.zone.proofs.Good.{by-order}
 use Rattle.masks.proofs.MaskFroms.{bit-mask-from, mask-from-below, mask-ext}
@@ -18,7 +19,6 @@ use Rattle.masks.specs.Masks.{bit, maskFrom}
 use Rattle.sheet.specs.Form.{Element as Form, one, range}
 use Rattle.sheet.specs.Meaning.{elementHas}
 use Rattle.sheet.specs.Range.{elementInRange}
-use Rattle.words.proofs.Tied.{both-true}
 use Rattle.fields.specs.Marked.{marksWith, marksOf, marksOver}
 use Rattle.fields.specs.declared.marks.Marks.{Marks}
 

@@ -6,8 +6,8 @@ use Prim.Native.Nat.{ℕ, _≤_}
 use native.Mathlib.Omega.{arith}
 use borrow.Author.Tests.{eq-eqb, eqb-true, leb-true}
 use lib.Dec.{leb, eqb}
+use Rattle.calendar.proofs.Every.{both-true}
 use Rattle.calendar.specs.Below.{anyOf, allOf}
-use Rattle.frames.proofs.MonthSets.{both-true}
 use Rattle.frames.specs.Rule.{noLimit}
 use Rattle.frames.specs.declared.Ends.{Ends}
 use Rattle.masks.proofs.Bits.{decided, bit-of-zero}

@@ -4,8 +4,8 @@ use mathlib.Core.List.{List, [], _∷_}
 use mathlib.Core.Option.{Option, none, some}
 use mathlib.Core.Path.{_≡_, refl}
 use lib.Dec.{leb, ltb}
+use Rattle.calendar.proofs.Every.{both-true}
 use Rattle.calendar.specs.Below.{allOf}
-use Rattle.frames.proofs.MonthSets.{both-true}
 use Rattle.sheet.specs.Form.{Time, Entry, Part, freq, interval, count, until, byDay, byMonthDay, bySetPos, Form, zone, change, cron, rule, extra, except}
 use Rattle.sheet.specs.Parts.{Given, givenOf}
 use Rattle.sheet.specs.Range.{entryInRange, dayNumberInRange, timeInRange, partInRange, inRange}

@@ -7,10 +7,10 @@ use Prim.Native.Nat.{ℕ, _+_, _-_, _*_, _/_, _%_, _<_, _≤_}
 use native.Mathlib.Omega.{arith}
 use borrow.Author.Tests.{lt-ltb, le-ltb, le-leb, lt-leb, leb-true, eqb-true, not-true}
 use lib.Dec.{leb, ltb, eqb}
+use Rattle.calendar.proofs.Every.{both-true}
 use Rattle.calendar.specs.Below.{countFrom}
 use Rattle.calendar.specs.Window.{dayMinutes, windowDays, windowMinutes, windowLast}
 use Rattle.days.specs.Search.{nthFrom}
-use Rattle.frames.proofs.MonthSets.{both-true}
 use Rattle.frames.specs.Rule.{ruleHeld}
 use Rattle.masks.proofs.Bits.{decided}
 use Rattle.sheet.specs.Form.{Time, Part, Frequency, daily, rule}

@@ -2,8 +2,8 @@
 use mathlib.Core.Bool.{Bool, true, false, _&&_, _||_}
 use mathlib.Core.List.{List, [], _∷_}
 use mathlib.Core.Path.{_≡_, refl, ap₂, _∙_}
+use Rattle.calendar.proofs.Every.{both-true}
 use Rattle.calendar.specs.Below.{anyOf, allOf}
-use Rattle.frames.proofs.MonthSets.{both-true}
 
 abbrev pub anything : {A : Type 0} → A → Bool
 anything a = true

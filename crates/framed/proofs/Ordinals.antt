@@ -7,10 +7,10 @@ use native.Mathlib.Nat.{zero-div}
 use native.Mathlib.Omega.{arith}
 use borrow.Author.Tests.{eq-eqb, ne-eqb, eqb-true, eqb-false, leb-true, ltb-true}
 use lib.Dec.{leb, ltb, eqb}
+use Rattle.calendar.proofs.Every.{both-true}
 use Rattle.calendar.specs.Below.{within, anyOf, allOf}
 use Rattle.calendar.specs.Window.{localWeekday, localDate, fromEnd, windowDays}
 use Rattle.frames.proofs.MonthDays.{weekday-at-most}
-use Rattle.frames.proofs.MonthSets.{both-true}
 use Rattle.frames.specs.Rule.{noLimit, ordinalOf, ordinalMask, ordinalAllowed}
 use Rattle.frames.specs.declared.Ends.{Ends}
 use Rattle.masks.proofs.Bits.{decided}

@@ -5,12 +5,12 @@ use Prim.Native.Nat.{ℕ, _-_, _^_}
 use native.Mathlib.Nat.{zero-div}
 use borrow.Author.Tests.{eqb-true}
 use lib.Dec.{eqb}
+use Rattle.calendar.proofs.Every.{both-true}
 use Rattle.masks.proofs.Bits.{bit-of-zero}
 use Rattle.masks.specs.Masks.{bit}
 use Rattle.frames.specs.Rule.{noLimit, monthDayAllowed, ordinalMask, ordinalAllowed, weekdayAllowed}
 use Rattle.frames.specs.declared.Ends.{Ends}
 use Rattle.frames.specs.declared.Rule.{Rule}
-use Rattle.frames.proofs.MonthSets.{both-true}
 
 module _ (f : Rule) (day back : ℕ) where
   pub any-day : noLimit (f .days) ≡ true → monthDayAllowed f day back ≡ true

@@ -7,7 +7,7 @@ use native.Mathlib.Omega.{arith}
 use borrow.Author.Tests.{lt-leb, eq-eqb, not-true, not-false}
 use lib.Dec.{T, leb, eqb}
 use lib.ListN.{getD}
-use Rattle.calendar.proofs.Every.{every}
+use Rattle.calendar.proofs.Every.{both-true, every}
 use Rattle.calendar.specs.Below.{everyBelow}
 use Rattle.calendar.specs.Window.{monthFirst, monthDays, localWeekday}
 use Rattle.masks.proofs.MaskFroms.{mask-from-same, mask-none, bit-in-mask}
@@ -25,10 +25,6 @@ use Rattle.frames.proofs.Positions.{placed-by-bits}
 pub is-true : (b : Bool) → T b → b ≡ true
 is-true true t = refl
 is-true false t = absurd t
-
-pub both-true : (a b : Bool) → (a && b) ≡ true → (a ≡ true) × (b ≡ true)
-both-true true b e = (refl, e)
-both-true false b e = absurd (false≢true e)
 
 wholeMonth : ℕ → Bool
 wholeMonth n = leb n 0 || bit 4294967294 n

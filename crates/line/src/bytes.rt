@@ -2,18 +2,13 @@
 ghost use mathlib.Core.Path.{_≡_};
 ghost use Rattle.sheet.specs.Refusals.{bytesGood};
 use calendar::num::lies_within;
+use words::digits::wide;
 
 const MOST_BYTES: usize = 256;
 
 const LOWEST: u64 = 32;
 
 const HIGHEST: u64 = 126;
-
-fn wide(c: u8) -> u64
-    ensures { λ r. ⌜ r ≡ c ⌝ }
-{
-    c as u64
-}
 
 pub(crate) fn good(line: &[u8]) -> bool
     ensures { λ r. ⌜ r ≡ bytesGood (now (line .entry)) ⌝ }

@@ -3,7 +3,7 @@ use mathlib.Core.List.{List, map}
 use mathlib.Core.Path.{_≡_, refl, sym, ap, _∙_}
 use Prim.Native.Nat.{ℕ}
 use borrow.Author.Tests.{ltb-true, lt-ltb}
-use Rattle.frames.proofs.MonthSets.{both-true}
+use Rattle.calendar.proofs.Every.{both-true}
 use Rattle.held.specs.Lists.{listHeld}
 use Rattle.plan.proofs.Rows.{plan-held-by-rows}
 use Rattle.plan.specs.Plan.{PlanInstant, planZone}

@@ -8,12 +8,13 @@ use native.Mathlib.Omega.{arith}
 use borrow.Author.Tests.{eqb-true}
 use lib.Dec.{eqb}
 use lib.ListN.{length, getD, drop}
+use Rattle.calendar.proofs.Every.{both-true}
 use Rattle.calendar.specs.Below.{allOf}
 use Rattle.sheet.specs.Form.{weekdayWords, frequencyWords}
 use Rattle.sheet.specs.Words.{sameBytes, wordIn}
 use Rattle.words.proofs.Choices.{wordOf, without, same-is, word-in}
 use Rattle.words.proofs.Forms.{Stops}
-use Rattle.words.proofs.Tied.{both-true, made}
+use Rattle.words.proofs.Tied.{made}
 use Rattle.words.specs.Answers.{madeRead, oneAt}
 use Rattle.words.specs.Reads.{digitsIn, startsWith}
 use Rattle.parts.proofs.Places.{Reads, read-none, read-some, read-made}

@@ -9,13 +9,14 @@ use borrow.Author.Tests.{eq-eqb, ne-eqb, eqb-true, lt-ltb, not-true}
 use lib.Dec.{eqb}
 use lib.ListN.{length, getD, take, drop, length-take, length-drop, take-append-drop}
 use lib.Seq.{drop-drop, drop-append-le}
+use Rattle.calendar.proofs.Every.{both-true}
 use Rattle.calendar.specs.Below.{allOf}
 use Rattle.zone.proofs.Good.{by-order}
 use Rattle.sheet.specs.Form.{plain, ordinal, weekdayWords, ordinalEntry, entryOf}
 use Rattle.sheet.specs.Words.{Signed, isDigit, signedOf}
 use Rattle.words.proofs.Choices.{wordOf, prefixFree, one-tied}
 use Rattle.words.proofs.Forms.{Stops, signed-tied}
-use Rattle.words.proofs.Tied.{both-true, whole-none, whole-all, whole-part, made, Tied, tied-made, tied-by, tied-none}
+use Rattle.words.proofs.Tied.{whole-none, whole-all, whole-part, made, Tied, tied-made, tied-by, tied-none}
 use Rattle.words.specs.Answers.{signedRead, oneAt}
 use Rattle.words.specs.Reads.{digitsIn, startsWith, signedAt}
 use Rattle.parts.specs.Values.{entryRead}

@@ -8,10 +8,11 @@ use native.Mathlib.Omega.{arith}
 use borrow.Author.Tests.{eq-eqb, ne-eqb, eqb-false, not-true}
 use lib.Dec.{eqb}
 use lib.ListN.{length, getD, drop, length-append}
+use Rattle.calendar.proofs.Every.{both-true}
 use Rattle.calendar.specs.Below.{allOf}
 use Rattle.sheet.specs.Words.{sameBytes}
 use Rattle.words.proofs.Choices.{wordOf, without, starts-front, same-is}
-use Rattle.words.proofs.Tied.{both-true, made}
+use Rattle.words.proofs.Tied.{made}
 use Rattle.words.specs.Answers.{madeRead, oneAt}
 use Rattle.words.specs.Reads.{startsWith}
 

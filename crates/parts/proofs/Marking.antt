@@ -1,5 +1,5 @@
 -- The entries and numbers of a list marked one after the other, as the masks of the whole list.
-use mathlib.Core.Bool.{Bool, true, false, cond, not, _&&_, _||_, and-true, and-false, or-true, or-false}
+use mathlib.Core.Bool.{Bool, true, false, cond, not, _&&_, _||_, and-assoc, and-true, and-false, or-assoc, or-true, or-false}
 use mathlib.Core.List.{List, [], _∷_}
 use mathlib.Core.Option.{Option, none, some}
 use mathlib.Core.Path.{_≡_, refl, sym, ap, _∙_}
@@ -7,6 +7,7 @@ use Prim.Native.Nat.{ℕ, zero, suc, _+_, _-_, _*_, _/_, _%_, _^_, _<_, _≤_}
 use native.Mathlib.Omega.{arith}
 use borrow.Author.Tests.{leb-true, le-leb, ltb-true, lt-ltb, eq-eqb, ne-eqb, eqb-true, eqb-false}
 use lib.Dec.{leb, ltb, eqb}
+use Rattle.calendar.proofs.Every.{both-true}
 use Rattle.calendar.specs.Below.{within, anyOf, allOf}
 use Rattle.frames.specs.Rule.{ordinalMask}
 use Rattle.framed.proofs.Ends.{signedAs}
@@ -20,7 +21,6 @@ use Rattle.sheet.specs.Parts.{isOrdinal as hasOrdinal}
 use Rattle.sheet.specs.Range.{entryInRange, dayNumberInRange}
 use Rattle.sheet.specs.Words.{Signed}
 use Rattle.words.proofs.Folding.{overAll}
-use Rattle.words.proofs.Tied.{both-true}
 use Rattle.zone.proofs.Good.{by-order}
 use Rattle.parts.specs.Marks.{ordinalBit, withPlain, withOrdinal, withNumber}
 use Rattle.parts.specs.Values.{numbersGiven, weekdaysGiven}
@@ -36,14 +36,6 @@ any-same good f g e (x ∷ xs) a = let b = both-true (good x) _ a in rw (e x (b 
 anything : {A : Type 0} → (xs : List A) → allOf (λ (x : A). true) xs ≡ true
 anything [] = refl
 anything (x ∷ xs) = anything xs
-
-and-assoc : (a b c : Bool) → (a && b && c) ≡ (a && (b && c))
-and-assoc true b c = refl
-and-assoc false b c = refl
-
-or-assoc : (a b c : Bool) → (a || b || c) ≡ (a || (b || c))
-or-assoc true b c = refl
-or-assoc false b c = refl
 
 -- a bit that is set where a test holds lies in a range, where it holds for the range alone
 some-between : (low high n : ℕ) (b : Bool) → (b ≡ true → (low ≤ n) × (n < high)) → Between low high (cond b (some n) none)

@@ -1,5 +1,5 @@
 -- Bits set one after the other, as the mask of the numbers that were set.
-use mathlib.Core.Bool.{Bool, true, false, _&&_, _||_, or-false}
+use mathlib.Core.Bool.{Bool, true, false, _&&_, _||_, or-assoc, or-false}
 use mathlib.Core.List.{List, [], _∷_}
 use mathlib.Core.Option.{Option, none, some}
 use mathlib.Core.Path.{_≡_, refl, sym, ap, _∙_}
@@ -27,10 +27,6 @@ isAt i (some n) = eqb i n
 -- all bits that are set lie in a range
 pub record Between (low high : ℕ) (o : Option ℕ) : Type 0 where
   pub between : (n : ℕ) → o ≡ some n → (low ≤ n) × (n < high)
-
-or-assoc : (a b c : Bool) → (a || b || c) ≡ (a || (b || c))
-or-assoc true b c = refl
-or-assoc false b c = refl
 
 module _ {A : Type 0} (place : A → Option ℕ) where
   unfoldable pub setAll : ℕ → List A → ℕ

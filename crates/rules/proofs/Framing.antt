@@ -6,11 +6,11 @@ use mathlib.Core.Path.{_≡_, refl, sym, ap, ap₂, _∙_}
 use Prim.Native.Nat.{ℕ, _/_, _^_}
 use borrow.Author.Tests.{not-true}
 use lib.Dec.{eqb}
+use Rattle.calendar.proofs.Every.{both-true}
 use Rattle.calendar.specs.Window.{localDate, localWeekday, dayMinutes, windowLast}
 use Rattle.framed.proofs.Days.{withLast}
 use Rattle.framed.proofs.Sets.{ordinalsFor, positionsFor}
 use Rattle.framed.specs.Framed.{nothing, endsOf, weekdaysOf, daysOf, frequencyNumber, ruleFrame}
-use Rattle.frames.proofs.MonthSets.{both-true}
 use Rattle.frames.specs.declared.Ends.{Ends}
 use Rattle.frames.specs.declared.Rule.{Rule}
 use Rattle.parts.specs.Given.{daysFrom, numbersFrom, partsGiven}

@@ -7,13 +7,13 @@ use Prim.Native.Nat.{ℕ, _+_, _-_, _*_, _/_, _%_, _<_}
 use native.Mathlib.Omega.{arith}
 use borrow.Author.Tests.{lt-ltb}
 use lib.Dec.{leb, ltb, eqb}
+use Rattle.calendar.proofs.Every.{both-true}
 use Rattle.calendar.specs.Below.{allOf}
 use Rattle.calendar.specs.Window.{dayMinutes, windowDays, windowMinutes, windowLast}
 use Rattle.days.specs.Search.{nthFrom}
 use Rattle.framed.proofs.Days.{day-with-last, rule-day}
 use Rattle.framed.proofs.Goods.{givenPasses, written}
 use Rattle.framed.specs.Framed.{lastOf, ruleFrame}
-use Rattle.frames.proofs.MonthSets.{both-true}
 use Rattle.frames.specs.Rule.{ruleDay, ruleOccurs}
 use Rattle.frames.specs.declared.Rule.{Rule}
 use Rattle.masks.proofs.Bits.{decided}

@@ -8,11 +8,12 @@ use native.Mathlib.Omega.{arith}
 use borrow.Author.Tests.{eqb-true}
 use lib.Dec.{eqb}
 use lib.ListN.{length, getD, drop}
+use Rattle.calendar.proofs.Every.{both-true}
 use Rattle.calendar.specs.Below.{allOf}
 use Rattle.sheet.specs.Words.{sameBytes, wordIn}
 use Rattle.words.specs.Answers.{madeRead, oneAt}
 use Rattle.words.specs.Reads.{startsWith}
-use Rattle.words.proofs.Tied.{both-true, made, Tied, tied-by, tied-made, tied-none}
+use Rattle.words.proofs.Tied.{made, Tied, tied-by, tied-made, tied-none}
 
 -- the place of a word among some
 unfoldable pub wordOf : List (List ℕ) → List ℕ → Option ℕ

@@ -9,6 +9,7 @@ use borrow.Author.Tests.{eq-eqb, ne-eqb, eqb-true}
 use lib.Dec.{eqb}
 use lib.ListN.{length, getD, take, drop, length-drop, length-take, drop-of-length-le, List·getD-append}
 use lib.Seq.{split-at, drop-drop, getD-drop, drop-append-le, take-append-le, take-all}
+use Rattle.calendar.proofs.Every.{both-true}
 use Rattle.calendar.specs.Below.{allOf}
 use Rattle.sheet.specs.Form.{Shift, shiftOf, Time, timeOf}
 use Rattle.sheet.specs.Words.{isDigit, decimal, numberOf, Signed, signedOf}
@@ -19,7 +20,7 @@ use Rattle.words.specs.declared.cursor.Signed.{Signed as Read}
 use Rattle.words.specs.declared.cursor.Shifted.{Shifted}
 use Rattle.words.specs.declared.cursor.Timed.{Timed}
 use Rattle.words.proofs.Listing.{first-byte}
-use Rattle.words.proofs.Tied.{both-true, all-digits, some-digits, digits-inside, wholeRead, Tied, tied-by, tied-none, number-tied}
+use Rattle.words.proofs.Tied.{all-digits, some-digits, digits-inside, wholeRead, Tied, tied-by, tied-none, number-tied}
 
 -- what may stand after a number or an offset: no digit, no sign
 pub record Stops (tail : List ℕ) : Type 0 where

@@ -16,11 +16,6 @@ use Rattle.words.specs.Answers.{madeRead, numberRead}
 use Rattle.words.specs.Reads.{cursor, digitsIn, decimalAt, numberAt}
 use Rattle.words.specs.declared.cursor.Number.{Number}
 
--- two tests that both hold
-pub both-true : (a b : Bool) → (a && b) ≡ true → (a ≡ true) × (b ≡ true)
-both-true true b e = (refl, e)
-both-true false b e = let y : _≡_ {A = ℕ} 0 1 = cc in absurd (omega arith)
-
 -- ---- digits of a piece
 pub all-digits : (p tail : List ℕ) → allOf isDigit p ≡ true → digitsIn tail ≡ 0 → digitsIn (p ++ tail) ≡ length p
 unfolding digitsIn

@@ -5,6 +5,7 @@ use Prim.Native.Nat.{ℕ, _+_, _-_, _*_, _<_, _≤_}
 use native.Mathlib.Omega.{arith}
 use borrow.Author.Tests.{le-leb, lt-leb, leb-true}
 use lib.Dec.{leb}
+use Rattle.calendar.proofs.Every.{both-true}
 use Rattle.calendar.specs.Below.{within}
 use Rattle.calendar.specs.Calendar.{leapYear, monthLength, dayOf, validDate, dayOfDate}
 use Rattle.calendar.specs.Window.{windowFirst, windowDays, dayMinutes}
@@ -13,7 +14,6 @@ use Rattle.sheet.proofs.Times.{day-in-window}
 use Rattle.sheet.specs.Form.{Time, Shift}
 use Rattle.sheet.specs.Range.{timeInRange, minuteOf, shiftInRange, shiftMinutes, offsetOfShift}
 use Rattle.zone.specs.Zone.{bias}
-use Rattle.words.proofs.Tied.{both-true}
 use Rattle.words.specs.Times.{minuteAs, offsetAs}
 use Rattle.words.specs.declared.times.Minute.{Minute}
 use Rattle.words.specs.declared.times.Offset.{Offset}

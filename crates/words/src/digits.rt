@@ -9,7 +9,8 @@ const ZERO: u64 = 48;
 
 const NINE: u64 = 57;
 
-fn wide(c: u8) -> u64
+// A byte as a number.
+pub fn wide(c: u8) -> u64
     ensures { λ r. ⌜ r ≡ c ⌝ }
 {
     c as u64

@@ -1,4 +1,4 @@
 // Pieces of a sheet line, read at a cursor: numbers, signs, times, offsets and words.
 pub mod cursor;
-mod digits;
+pub mod digits;
 pub mod times;

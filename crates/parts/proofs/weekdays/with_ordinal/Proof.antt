@@ -3,7 +3,7 @@ use mathlib.Core.Path.{refl, sym, _∙_}
 use native.Mathlib.Omega.{arith}
 use borrow.Author.Tests.{not-true, not-false, leb-true}
 use lib.Dec.{leb}
-use Rattle.words.proofs.Tied.{both-true}
+use Rattle.calendar.proofs.Every.{both-true}
 use Rattle.parts.specs.Marks.{withOrdinal}
 use borrow.Author.Needs.{needs}
 use Rattle.parts.proofs.weekdays.with_ordinal.Statement.{statement}
