@@ -1,14 +1,15 @@
 -- The frame of a line that is taken holds and excepts what the line does.
 use mathlib.Core.Bool.{Bool, true, false, cond, not}
-use mathlib.Core.List.{List}
+use mathlib.Core.List.{List, [], _∷_}
 use mathlib.Core.Option.{some}
 use mathlib.Core.Path.{_≡_, refl}
 use Prim.Native.Nat.{ℕ, suc, _<_}
 use native.Mathlib.Omega.{arith}
 use Rattle.calendar.specs.Window.{windowMinutes}
-use Rattle.plan.specs.Plan.{frameHolds, frameExcepts}
+use Rattle.plan.specs.Plan.{frameHolds, frameExcepts, changesOf, offsetOf}
+use Rattle.plan.specs.declared.Frame.{Frame}
 use Rattle.sheet.specs.Form.{Form, zone, change, cron, rule, extra, except, formOf}
-use Rattle.sheet.specs.Meaning.{lineHolds, lineExcepts}
+use Rattle.sheet.specs.Meaning.{lineHolds, lineExcepts, offsetOfLines, changesOfLines}
 use Rattle.sheet.specs.Place.{inPlace}
 use Rattle.sheet.specs.Range.{inRange}
 use Rattle.sheet.specs.Refusals.{Context, together, limitsKept, startOccurs, formRefusal}
@@ -59,3 +60,33 @@ line-excepts (except t) m = refl
 pub read-line-held : (line : List ℕ) (f : Form) → formOf line ≡ some f → (c : Context) → formRefusal c f ≡ 0 → (m : ℕ) → m < windowMinutes
     → frameHolds m (frameOf f) ≡ lineHolds m f
 read-line-held line f e c r m h = line-held c f r (form-written line f e) m h
+
+-- ---- all that a line says and its frame says: minutes held and excepted, and the zone
+pub record Means (f : Form) (frame : Frame) : Type 0 where
+  pub holds : (m : ℕ) → m < windowMinutes → frameHolds m frame ≡ lineHolds m f
+  pub excepts : (m : ℕ) → frameExcepts m frame ≡ lineExcepts m f
+  pub offset : offsetOf (frame ∷ []) ≡ offsetOfLines (f ∷ [])
+  pub changes : changesOf (frame ∷ []) ≡ changesOfLines (f ∷ [])
+
+line-offset : (f : Form) → offsetOf (frameOf f ∷ []) ≡ offsetOfLines (f ∷ [])
+unfolding frameOf offsetOf offsetOfLines
+line-offset (zone s) = refl
+line-offset (change t s) = refl
+line-offset (cron m h d mo w) = refl
+line-offset (rule t ps) = refl
+line-offset (extra t) = refl
+line-offset (except t) = refl
+
+line-changes : (f : Form) → changesOf (frameOf f ∷ []) ≡ changesOfLines (f ∷ [])
+unfolding frameOf changesOf changesOfLines
+line-changes (zone s) = refl
+line-changes (change t s) = refl
+line-changes (cron m h d mo w) = refl
+line-changes (rule t ps) = refl
+line-changes (extra t) = refl
+line-changes (except t) = refl
+
+-- the frame of a line that is taken means what the line means
+pub line-means : (line : List ℕ) (f : Form) → formOf line ≡ some f → (c : Context) → formRefusal c f ≡ 0 → Means f (frameOf f)
+line-means line f e c z =
+    record { holds = λ m h. read-line-held line f e c z m h; excepts = λ m. line-excepts f m; offset = line-offset f; changes = line-changes f }

@@ -1,15 +1,14 @@
--- The lines D and X, one for the other.
+-- The lines D and X: a place, a time, and a frame that differs in its kind alone.
 use mathlib.Core.Bool.{Bool, true, false, cond}
 use mathlib.Core.Option.{some}
-use mathlib.Core.Path.{_≡_, refl, sym, ap, _∙_}
+use mathlib.Core.Path.{_≡_, refl, _∙_}
 use Prim.Native.Nat.{ℕ}
 use Rattle.framed.specs.Framed.{frameOf}
 use Rattle.plan.specs.declared.Frame.{Frame}
-use Rattle.sheet.specs.Form.{Time, Form, zone, change, extra, except}
+use Rattle.sheet.specs.Form.{Time, Form, extra, except}
 use Rattle.sheet.specs.Range.{timeInRange, minuteOf, inRange}
 use Rattle.sheet.specs.Refusals.{together, limitsKept, startOccurs}
-use Rattle.line.specs.Lined.{beforeAs, contextAs, linedForm, otherStands}
-use Rattle.line.specs.declared.Before.{Before}
+use Rattle.line.specs.Lined.{contextAs, linedForm, otherStands}
 use Rattle.line.specs.declared.Context.{Context}
 use Rattle.line.specs.declared.Lined.{Lined}
 use Rattle.line.proofs.Placing.{extra-place, except-place}

@@ -2,7 +2,7 @@
 use mathlib.Core.Bool.{Bool, true, false, cond, not}
 use mathlib.Core.List.{List}
 use mathlib.Core.Option.{Option, none, some}
-use mathlib.Core.Path.{_≡_, refl, sym, ap, _∙_}
+use mathlib.Core.Path.{_≡_, refl, sym}
 use Prim.Native.Nat.{ℕ}
 use native.Mathlib.Omega.{arith}
 use borrow.Author.Tests.{eqb-true, eq-eqb}
@@ -10,13 +10,8 @@ use lib.Dec.{eqb}
 use Rattle.framed.specs.Framed.{frameOf}
 use Rattle.sheet.specs.Form.{Form, formOf}
 use Rattle.sheet.specs.Refusals.{Context, bytesGood, formRefusal, formRefusalOr3, lineRefusal}
-use Rattle.line.specs.Lined.{linedForm, lined}
+use Rattle.line.specs.Lined.{linedForm, lined, numberOf}
 use Rattle.line.specs.declared.Lined.{Lined}
-
--- 0 with a frame, else the refusal number
-abbrev pub numberOf : Lined → ℕ
-numberOf (Lined.Is f) = 0
-numberOf (Lined.Refused n) = n
 
 module _ (c : Context) where
   form-number : (o : Option Form) → numberOf (linedForm c o) ≡ formRefusalOr3 c o

@@ -1,5 +1,4 @@
 -- Where a line may stand, as the code asks it.
-use mathlib.Core.Bool.{Bool, true, false, cond}
 use mathlib.Core.List.{List}
 use mathlib.Core.Path.{_≡_, refl}
 use Rattle.sheet.specs.Form.{Time, Shift, Field, Part, zone, change, cron, rule, extra, except}

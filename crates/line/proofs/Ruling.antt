@@ -5,15 +5,13 @@ use mathlib.Core.Option.{Option, none, some}
 use mathlib.Core.Path.{_≡_, refl, sym, ap, _∙_}
 use Prim.Native.Nat.{ℕ, _+_, _≤_}
 use native.Mathlib.Omega.{arith}
-use lib.Dec.{eqb}
-use lib.ListN.{length, getD, drop}
+use lib.ListN.{length, drop}
 use Rattle.framed.proofs.Goods.{written}
 use Rattle.framed.specs.Framed.{ruleFrame, frameOf}
-use Rattle.parts.proofs.Whole.{PartStops, stops-nothing, stops-space, parts-tied}
+use Rattle.parts.proofs.Whole.{stops-nothing, stops-space, parts-tied}
 use Rattle.parts.specs.Given.{partsGiven, partsRead, partsAs}
 use Rattle.parts.specs.declared.given.Given.{Given}
 use Rattle.parts.specs.declared.given.Parts.{Parts}
-use Rattle.plan.specs.declared.Frame.{Frame}
 use Rattle.rules.proofs.Ruling.{ruled-is}
 use Rattle.rules.specs.Ruled.{ruledFrom}
 use Rattle.rules.specs.declared.Ruled.{Ruled}
@@ -25,9 +23,8 @@ use Rattle.sheet.specs.Refusals.{together, limitsKept, startOccurs}
 use Rattle.sheet.specs.Words.{pieces, eachOf}
 use Rattle.words.proofs.Tied.{made, Tied}
 use Rattle.words.specs.declared.cursor.Cursor.{Cursor}
-use Rattle.line.specs.Lined.{beforeAs, contextAs, linedForm, otherStands}
+use Rattle.line.specs.Lined.{beforeAs, contextAs, linedForm, otherStands, ruledLine}
 use Rattle.line.specs.declared.Context.{Context}
-use Rattle.line.specs.declared.Lined.{Lined}
 use Rattle.line.proofs.Placing.{rule-place}
 use Rattle.line.proofs.Refusing.{not-together, no-start, taken}
 use Rattle.line.proofs.Timing.{Stop, over, space, timedRead, afterTime, timed-tied}
@@ -84,14 +81,9 @@ no-parts none e = refl
 no-parts (some r) e = let z : _≡_ {A = ℕ} 0 1 = cc in absurd (omega arith)
 
 -- ---- the line by the frame or refusal of its rule
-unfoldable pub ruledLine : Ruled → Lined
-ruledLine (Ruled.Is f) = Lined.Is (Frame.Rule f)
-ruledLine Ruled.Apart = Lined.Refused 6
-ruledLine Ruled.NoStart = Lined.Refused 8
-
 module _ (c : Context) (t : Time) (ps : List Part) (p : otherStands (c .before) ≡ true) (r : inRange (rule t ps) ≡ true) (w : written (rule t ps) ≡ true) where
   pub lined-rule : ruledLine (ruledFrom (partsGiven ps) (minuteOf t)) ≡ linedForm (contextAs c) (some (rule t ps))
-  unfolding ruledLine together limitsKept frameOf
+  unfolding together limitsKept frameOf
   lined-rule = ap ruledLine (ruled-is t ps r w) ∙ by-parts (partsTogether ps) refl
     where
       place : inPlace (beforeAs (c .before)) (rule t ps) ≡ true

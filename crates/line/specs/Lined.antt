@@ -5,6 +5,8 @@ use mathlib.Core.Option.{Option, none, some}
 use Prim.Native.Nat.{ℕ}
 use lib.Dec.{ltb, eqb}
 use Rattle.framed.specs.Framed.{frameOf}
+use Rattle.plan.specs.declared.Frame.{Frame}
+use Rattle.rules.specs.declared.Ruled.{Ruled}
 use Rattle.sheet.specs.Form.{Form, formOf}
 use Rattle.sheet.specs.Place.{Before as Standing, start, zoned, lines}
 use Rattle.sheet.specs.Refusals.{Context as Standings, bytesGood, formRefusal}
@@ -49,3 +51,14 @@ otherStands Before.Lines = true
 -- an answer where the form ends with the line and may stand where it does
 abbrev pub standing : ℕ → Before → ℕ → Lined → Lined
 standing length before end answer = cond (eqb end length) (cond (otherStands before) answer (Lined.Refused 4)) (Lined.Refused 3)
+
+-- the frame of a rule, or the number of its refusal: 6 "parts that don't go together", 8 "start not an occurrence of its rule"
+abbrev pub ruledLine : Ruled → Lined
+ruledLine (Ruled.Is f) = Lined.Is (Frame.Rule f)
+ruledLine Ruled.Apart = Lined.Refused 6
+ruledLine Ruled.NoStart = Lined.Refused 8
+
+-- 0 with a frame, else the refusal number
+abbrev pub numberOf : Lined → ℕ
+numberOf (Lined.Is f) = 0
+numberOf (Lined.Refused n) = n

@@ -1,18 +1,12 @@
 -- What a reader's answer says of what was read.
-use mathlib.Core.List.{List}
 use mathlib.Core.Option.{Option, none, some}
-use mathlib.Core.Path.{_≡_, refl, sym, ap, ap₂, _∙_}
+use mathlib.Core.Path.{_≡_, refl, sym, ap, ap₂}
 use Prim.Native.Nat.{ℕ}
 use native.Mathlib.Omega.{arith}
 use Rattle.sheet.specs.Form.{Entry, plain, ordinal, Part}
-use Rattle.sheet.specs.Words.{Signed}
-use Rattle.words.specs.Answers.{signedRead}
-use Rattle.words.specs.Reads.{cursor}
 use Rattle.words.specs.declared.cursor.Cursor.{Cursor}
-use Rattle.words.specs.declared.cursor.Signed.{Signed as Read}
 use Rattle.parts.specs.Marks.{entryMarks}
 use Rattle.parts.specs.Values.{namedAs, entryAs, partAs, partedAs}
-use Rattle.parts.specs.declared.entry.Entry.{Entry as ReadEntry}
 use Rattle.parts.specs.declared.names.Named.{Named}
 use Rattle.parts.specs.declared.part.Part.{Part as ReadPart}
 use Rattle.parts.specs.declared.part.Parted.{Parted}

@@ -1,5 +1,5 @@
 -- Lists taken up as they are read, as the masks of the whole lists.
-use mathlib.Core.Bool.{true, _&&_}
+use mathlib.Core.Bool.{true}
 use mathlib.Core.List.{List, [], _∷_}
 use mathlib.Core.Option.{Option, none, some}
 use mathlib.Core.Path.{_≡_, refl, ap}
@@ -9,7 +9,7 @@ use lib.ListN.{length}
 use Rattle.calendar.specs.Below.{allOf}
 use Rattle.sheet.specs.Form.{Entry, plain, ordinal}
 use Rattle.sheet.specs.Words.{Signed}
-use Rattle.words.proofs.Folding.{overAll, takenAs}
+use Rattle.words.proofs.Folding.{takenAs}
 use Rattle.words.specs.Answers.{signedRead}
 use Rattle.words.specs.Lists.{listAt}
 use Rattle.words.specs.Reads.{cursor, signedAt}

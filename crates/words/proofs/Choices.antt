@@ -5,7 +5,7 @@ use mathlib.Core.Option.{Option, none, some, Option·getD}
 use mathlib.Core.Path.{_≡_, refl, sym, ap, _∙_}
 use Prim.Native.Nat.{ℕ, suc, _+_, _≤_}
 use native.Mathlib.Omega.{arith}
-use borrow.Author.Tests.{eqb-true}
+use borrow.Author.Tests.{eqb-true, not-true}
 use lib.Dec.{eqb}
 use lib.ListN.{length, getD, drop}
 use Rattle.calendar.proofs.Every.{both-true}
@@ -28,10 +28,6 @@ prefixFree (w ∷ ws) = allOf (λ v. not (startsWith w v)) ws && prefixFree ws
 -- no word has the byte
 abbrev pub without : ℕ → List (List ℕ) → Bool
 without c ws = allOf (allOf (λ x. not (eqb x c))) ws
-
-not-true : (b : Bool) → not b ≡ true → b ≡ false
-not-true true e = let z : _≡_ {A = ℕ} 0 1 = cc in absurd (omega arith)
-not-true false e = refl
 
 -- a word lies in the piece where its bytes do not follow it
 pub starts-front : (w p tail : List ℕ) → allOf (λ x. not (eqb x (getD tail 0 0))) w ≡ true → startsWith w (p ++ tail) ≡ startsWith w p

@@ -3,7 +3,7 @@ use mathlib.Core.Bool.{Bool, true, false, cond, _&&_, _||_, and-false}
 use mathlib.Core.List.{List, [], _∷_, _++_, append-assoc}
 use mathlib.Core.Option.{Option, none, some}
 use mathlib.Core.Path.{_≡_, refl, sym, ap, _∙_}
-use Prim.Native.Nat.{ℕ, suc, _+_, _-_, _<_, _≤_}
+use Prim.Native.Nat.{ℕ, suc, _+_, _<_, _≤_}
 use native.Mathlib.Omega.{arith}
 use borrow.Author.Tests.{eq-eqb, ne-eqb, eqb-true}
 use lib.Dec.{eqb}
@@ -16,7 +16,6 @@ use Rattle.sheet.specs.Words.{isDigit, decimal, numberOf, Signed, signedOf}
 use Rattle.words.specs.Answers.{numberRead, signedRead, shiftRead, timeRead}
 use Rattle.words.specs.Reads.{digitsIn, decimalAt, cursor, numberAt, signAt, withSign, signedAt, shiftAt, timeAt}
 use Rattle.words.specs.declared.cursor.Number.{Number}
-use Rattle.words.specs.declared.cursor.Signed.{Signed as Read}
 use Rattle.words.specs.declared.cursor.Shifted.{Shifted}
 use Rattle.words.specs.declared.cursor.Timed.{Timed}
 use Rattle.words.proofs.Listing.{first-byte}

@@ -1,5 +1,5 @@
 -- What was read: the sheet's value and the place after it, or nothing.
-use mathlib.Core.Bool.{true, false, cond}
+use mathlib.Core.Bool.{cond}
 use mathlib.Core.List.{List, [], _∷_}
 use mathlib.Core.Option.{Option, none, some}
 use Prim.Native.Nat.{ℕ, suc, _+_}

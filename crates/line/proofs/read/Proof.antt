@@ -1,10 +1,10 @@
 -- By the line's tag.
-use mathlib.Core.Path.{refl, sym, ap, _∙_}
+use mathlib.Core.Path.{refl, sym, _∙_}
 use native.Mathlib.Omega.{arith}
 use borrow.Author.Tests.{eq-eqb, ne-eqb, not-true, not-false}
 use denote.Ref.{now}
 use Rattle.sheet.specs.Form.{tagged}
-use Rattle.line.specs.Lined.{contextAs, lined, linedForm}
+use Rattle.line.specs.Lined.{lined, linedForm}
 use Rattle.line.proofs.Tagged.{no-tag, tag-and-space, other-tag}
 use borrow.Author.Needs.{needs}
 use Rattle.line.proofs.read.Statement.{statement}

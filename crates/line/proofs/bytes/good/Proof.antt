@@ -1,11 +1,11 @@
 -- The loop's invariant: the line passes if what is left of it does.
-use mathlib.Core.Bool.{true, false, and-false}
-use mathlib.Core.Path.{_≡_, refl, sym, ap, _∙_}
-use Prim.Native.Nat.{ℕ, _-_, _≤_}
+use mathlib.Core.Bool.{true, false}
+use mathlib.Core.Path.{_≡_, sym, ap, _∙_}
+use Prim.Native.Nat.{_-_}
 use native.Mathlib.Omega.{arith}
 use borrow.Author.Tests.{not-true, not-false}
 use denote.Ref.{now}
-use lib.ListN.{length, drop, getD}
+use lib.ListN.{length, drop}
 use Rattle.calendar.specs.Below.{within}
 use Rattle.sheet.specs.Refusals.{bytesGood}
 use Rattle.line.proofs.Passed.{passes, too-long, passed, passed-all, passed-one}

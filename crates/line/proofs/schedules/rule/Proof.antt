@@ -1,5 +1,5 @@
 -- Its place, its numbers, then its parts and its start.
-use mathlib.Core.Bool.{true, false, _&&_, and-false}
+use mathlib.Core.Bool.{true, _&&_, and-false}
 use mathlib.Core.List.{List}
 use mathlib.Core.Path.{_≡_, refl, sym, ap, ap₂, _∙_}
 use borrow.Author.Tests.{not-true, not-false}
@@ -11,10 +11,10 @@ use Rattle.sheet.specs.Form.{Part, rule as ruleForm}
 use Rattle.sheet.specs.Range.{timeInRange, partInRange, inRange}
 use Rattle.words.proofs.Told.{time-told, time-outside}
 use Rattle.words.specs.Answers.{timeAs}
-use Rattle.line.specs.Lined.{contextAs}
+use Rattle.line.specs.Lined.{contextAs, ruledLine}
 use Rattle.line.proofs.Placing.{rule-place}
 use Rattle.line.proofs.Refusing.{out-of-place, out-of-range}
-use Rattle.line.proofs.Ruling.{ruledLine, lined-rule}
+use Rattle.line.proofs.Ruling.{lined-rule}
 use borrow.Author.Needs.{needs}
 use Rattle.line.proofs.schedules.rule.Statement.{statement}
 use Rattle.line.proofs.schedules.rule.Tie as tie
@@ -62,21 +62,21 @@ enum-told-3 : tie.Need-enum-told-3
 enum-told-3 c = search needs
 
 returns-4 : tie.Need-returns-4
-unfolding inRange ruledLine
+unfolding inRange
 returns-4 c = let a = c .before .before .before .before .before .before .before .before .before .before .before .before .args in
     λ ps e w. let m = time-told (a .t) _ (sym (c .before .before .before .before .before .before .before .start .given .1) ∙ c .before .before .before .before .before .before .before .before .before .local-minute .ensures) in
     let r : inRange (ruleForm (timeAs (a .t)) ps) ≡ true = rw (m .0) (sym (good-parts (a .p) ps e) ∙ not-false _ (c .before .before .before .before .if2 .left)) in
     ap ruledLine (sym (c .before .ruled .given .1) ∙ c .before .before .before .rule-of .ensures ∙ ap₂ ruledFrom e (sym (m .1))) ∙ lined-rule (a .c) (timeAs (a .t)) ps (sym (c .before .before .before .before .before .before .before .before .before .before .before .other-stands .ensures) ∙ not-false _ (c .before .before .before .before .before .before .before .before .before .before .if1 .left)) r w
 
 returns-5 : tie.Need-returns-5
-unfolding inRange ruledLine
+unfolding inRange
 returns-5 c = let a = c .before .before .before .before .before .before .before .before .before .before .before .args in
     λ ps e w. let m = time-told (a .t) _ (sym (c .before .before .before .before .before .before .start .given .1) ∙ c .before .before .before .before .before .before .before .before .local-minute .ensures) in
     let r : inRange (ruleForm (timeAs (a .t)) ps) ≡ true = rw (m .0) (sym (good-parts (a .p) ps e) ∙ not-false _ (c .before .before .before .if2 .left)) in
     ap ruledLine (sym (c .enum-told2 .given .1) ∙ c .before .before .rule-of .ensures ∙ ap₂ ruledFrom e (sym (m .1))) ∙ lined-rule (a .c) (timeAs (a .t)) ps (sym (c .before .before .before .before .before .before .before .before .before .before .other-stands .ensures) ∙ not-false _ (c .before .before .before .before .before .before .before .before .before .if1 .left)) r w
 
 returns-6 : tie.Need-returns-6
-unfolding inRange ruledLine
+unfolding inRange
 returns-6 c = let a = c .before .before .before .before .before .before .before .before .before .before .before .args in
     λ ps e w. let m = time-told (a .t) _ (sym (c .before .before .before .before .before .before .start .given .1) ∙ c .before .before .before .before .before .before .before .before .local-minute .ensures) in
     let r : inRange (ruleForm (timeAs (a .t)) ps) ≡ true = rw (m .0) (sym (good-parts (a .p) ps e) ∙ not-false _ (c .before .before .before .if2 .left)) in

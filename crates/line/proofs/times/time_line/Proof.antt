@@ -4,7 +4,7 @@ use native.Mathlib.Omega.{arith}
 use borrow.Author.Tests.{not-true, not-false}
 use denote.Ref.{now}
 use Rattle.words.proofs.Told.{time-told, time-outside}
-use Rattle.words.specs.Answers.{timeAs, timeRead, madeRead}
+use Rattle.words.specs.Answers.{timeRead, madeRead}
 use Rattle.line.specs.Lined.{contextAs}
 use Rattle.line.proofs.Moments.{momentForm, moment-out-of-place, moment-out-of-range, moment-taken}
 use Rattle.line.proofs.Reading.{lined-not, lined-short, lined-whole}

@@ -1,12 +1,11 @@
 -- Its place, its numbers, then the limits.
-use mathlib.Core.Path.{refl, sym, ap, _∙_}
+use mathlib.Core.Path.{refl, sym, _∙_}
 use native.Mathlib.Omega.{arith}
 use borrow.Author.Tests.{not-true, not-false}
-use mathlib.Core.Bool.{true, false, and-false}
 use Rattle.framed.specs.Framed.{frameOf}
 use Rattle.sheet.proofs.Times.{minute-in-window}
 use Rattle.sheet.specs.Form.{change}
-use Rattle.sheet.specs.Range.{timeInRange, inRange, instantOfTime}
+use Rattle.sheet.specs.Range.{inRange, instantOfTime}
 use Rattle.sheet.specs.Refusals.{together, limitsKept, startOccurs}
 use Rattle.words.proofs.Told.{time-told, time-outside, shift-told, shift-outside}
 use Rattle.words.specs.Answers.{timeAs, shiftAs}

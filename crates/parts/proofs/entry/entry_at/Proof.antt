@@ -3,7 +3,6 @@ use mathlib.Core.Path.{refl, sym, ap, _∙_}
 use denote.Ref.{now}
 use Rattle.sheet.specs.Form.{weekdayWords}
 use Rattle.words.specs.Answers.{signedRead, oneAt}
-use Rattle.words.specs.Reads.{signedAt}
 use Rattle.parts.proofs.Answers.{named-is, named-not}
 use Rattle.parts.proofs.Places.{entry-plain, entry-ordinal, entry-not}
 use borrow.Author.Needs.{needs}

@@ -3,7 +3,6 @@ use mathlib.Core.Path.{refl}
 use Rattle.masks.specs.Masks.{maskFrom}
 use Rattle.sheet.specs.Parts.{givenOf, givenTwice}
 use Rattle.parts.specs.Given.{partsGiven}
-use borrow.Author.Needs.{needs}
 use Rattle.parts.proofs.given.nothing.Statement.{statement}
 use Rattle.parts.proofs.given.nothing.Tie as tie
 

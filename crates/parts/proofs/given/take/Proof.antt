@@ -2,7 +2,6 @@
 use mathlib.Core.Path.{_≡_, refl, sym, ap, _∙_}
 use mathlib.Core.Bool.{true, false}
 use Prim.Native.Nat.{ℕ}
-use borrow.Author.Tests.{not-false}
 use Rattle.masks.specs.Masks.{bit}
 use Rattle.parts.specs.Given.{nameIn, taken}
 use borrow.Author.Needs.{needs}

@@ -1,6 +1,5 @@
 -- The time after the name.
 use mathlib.Core.Path.{refl, sym, _∙_}
-use Rattle.words.specs.Times.{localMinute}
 use Rattle.parts.specs.Values.{valueRead, partAs}
 use Rattle.words.proofs.Told.{time-told, time-outside}
 use borrow.Author.Needs.{needs}
