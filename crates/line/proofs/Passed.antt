@@ -1,7 +1,7 @@
 -- The bytes of a line one after the other.
-use mathlib.Core.Bool.{Bool, true, false, _&&_}
+use mathlib.Core.Bool.{Bool, true, false, _&&_, and-true, and-false}
 use mathlib.Core.List.{List}
-use mathlib.Core.Path.{_≡_, refl}
+use mathlib.Core.Path.{_≡_, refl, sym, ap}
 use Prim.Native.Nat.{ℕ, _+_, _<_, _≤_}
 use native.Mathlib.Numerals.{add-one}
 use borrow.Author.Tests.{le-leb, lt-leb}
@@ -28,3 +28,7 @@ module _ (s : List ℕ) where
 
     pub passed-one : i < length s → (b : Bool) → within 32 126 (getD s i 0) ≡ b → passes (drop i s) ≡ (b && passes (drop (i + 1) s))
     passed-one h b e = rw (drop-cons s i 0, e, add-one) refl
+
+pub joined : (good one rest : Bool) → (good && (one && rest)) ≡ (one && good && rest)
+joined true one rest = ap (λ (b : Bool). b && rest) (sym (and-true one))
+joined false one rest = ap (λ (b : Bool). b && rest) (sym (and-false one))

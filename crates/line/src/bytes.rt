@@ -2,6 +2,7 @@
 ghost use mathlib.Core.Path.{_≡_};
 ghost use Rattle.sheet.specs.Refusals.{bytesGood};
 use calendar::num::lies_within;
+use frames::truth::both;
 use words::digits::wide;
 
 const MOST_BYTES: usize = 256;
@@ -17,11 +18,11 @@ pub(crate) fn good(line: &[u8]) -> bool
         return false;
     }
     let mut i: usize = 0;
+    let mut good = true;
+    // No way out before the end: so compiled, many bytes are tested at once.
     while i < line.len() {
-        if !lies_within(LOWEST, HIGHEST, wide(line[i])) {
-            return false;
-        }
+        good = both(lies_within(LOWEST, HIGHEST, wide(line[i])), good);
         i += 1;
     }
-    true
+    good
 }
