@@ -1,36 +1,40 @@
 -- Elements marked one after the other.
-use mathlib.Core.Bool.{Bool, true, false, cond}
+use mathlib.Core.Bool.{Bool, true, false, cond, _&&_}
 use mathlib.Core.List.{List, [], _∷_}
 use mathlib.Core.Option.{Option, none, some}
 use mathlib.Core.Path.{_≡_, refl, sym, ap, _∙_}
-use Prim.Native.Nat.{ℕ, suc, _+_, _-_, _<_, _≤_}
+use Prim.Native.Nat.{ℕ, suc, _+_, _-_, _<_}
 use native.Mathlib.Omega.{arith}
-use lib.Dec.{eqb}
+use borrow.Author.Tests.{leb-true, ne-eqb}
+use lib.Dec.{leb, eqb}
 use lib.ListN.{getD, drop}
-use Rattle.calendar.specs.Below.{within}
 use Rattle.sheet.specs.Form.{Element as Form, one, range}
 use Rattle.words.proofs.Folding.{overAll, takenAs, taken-not, taken-last, taken-next}
 use Rattle.words.specs.Reads.{digitsIn, cursor, numberAt}
 use Rattle.words.specs.declared.cursor.Cursor.{Cursor}
 use Rattle.words.specs.declared.cursor.Number.{Number}
 use Rattle.fields.specs.Elements.{rangeFrom, elementFrom, elementAt, elementRead}
-use Rattle.fields.specs.Marked.{marksOf, elementMarks, marksOver, elementsAt, listedAs}
+use Rattle.fields.specs.Marked.{marksOf, elementMarks, marksOver, elementsAt, listedAs, endedAs}
 use Rattle.fields.specs.declared.element.Element.{Element}
 use Rattle.fields.specs.declared.list.Listed.{Listed}
 use Rattle.fields.specs.declared.marks.Marks.{Marks}
 
--- ---- the place after what was read is none before it
-number-after : (s : List ℕ) (at v : ℕ) (c : Cursor) → numberAt s at ≡ Number.Is v c → at ≤ c .at
+-- ---- the place after what was read lies after it
+number-after : (s : List ℕ) (at v : ℕ) (c : Cursor) → numberAt s at ≡ Number.Is v c → at < c .at
 unfolding numberAt
-number-after s at v c e = by-range (within 1 4 (digitsIn (drop at s))) _ (at + digitsIn (drop at s)) (omega arith) e
+number-after s at v c e = by-range (leb 1 n) (leb n 4) refl _ e
   where
+    n : ℕ
+    n = digitsIn (drop at s)
+
     placeOf : Number → ℕ
     placeOf (Number.Is w d) = d .at
     placeOf Number.Not = 0
 
-    by-range : (b : Bool) (w f : ℕ) → at ≤ f → cond b (Number.Is w (cursor f)) Number.Not ≡ Number.Is v c → at ≤ c .at
-    by-range true w f h e = omega (arith, ap placeOf e)
-    by-range false w f h e = let z : _≡_ {A = ℕ} 0 1 = cc in absurd (omega arith)
+    by-range : (a b : Bool) → leb 1 n ≡ a → (w : ℕ) → cond (a && b) (Number.Is w (cursor (at + n))) Number.Not ≡ Number.Is v c → at < c .at
+    by-range true true g w e = omega (arith, leb-true 1 n g, ap placeOf e)
+    by-range true false g w e = let z : _≡_ {A = ℕ} 0 1 = cc in absurd (omega arith)
+    by-range false b g w e = let z : _≡_ {A = ℕ} 0 1 = cc in absurd (omega arith)
 
 -- what an element is read as
 pub record Read (low high : ℕ) (m : Marks) (x : Element) (marks : Marks) (c : Cursor) : Type 0 where
@@ -73,6 +77,10 @@ as-taken : (low high : ℕ) (m : Marks) (o : Option (List Form × ℕ)) → take
 as-taken low high m none = refl
 as-taken low high m (some r) = ap (λ (k : Marks). marked k (r .1)) (sym (over-all low high m (r .0)))
 
+-- ---- an end that is some place
+pub ended-is : (m : Marks) (end : ℕ) → 0 < end → endedAs m end ≡ Listed.Is m (cursor end)
+ended-is m end h = rw (ne-eqb end 0 (λ e. omega arith)) refl
+
 -- ---- the list from a place on
 module _ (s : List ℕ) (low high : ℕ) (m : Marks) (at : ℕ) where
   abbrev read : ℕ → Option (Form × ℕ)
@@ -99,19 +107,19 @@ placeIn : Option (Form × ℕ) → ℕ
 placeIn none = 0
 placeIn (some r) = r .1
 
-range-after : (s : List ℕ) (at n : ℕ) (x : Number) → numberAt s at ≡ x → (f : Form) (e : ℕ) → elementRead (rangeFrom n x) ≡ some (f, e) → at ≤ e
+range-after : (s : List ℕ) (at n : ℕ) (x : Number) → numberAt s at ≡ x → (f : Form) (e : ℕ) → elementRead (rangeFrom n x) ≡ some (f, e) → at < e
 unfolding placeIn
 range-after s at n (Number.Is v c) g f e q = omega (arith, number-after s at v c g, ap placeIn q)
 range-after s at n Number.Not g f e q = let z : _≡_ {A = ℕ} 0 1 = cc in absurd (omega arith)
 
-pub place-after : (s : List ℕ) (at : ℕ) (f : Form) (e : ℕ) → elementRead (elementAt s at) ≡ some (f, e) → at ≤ e
+pub place-after : (s : List ℕ) (at : ℕ) (f : Form) (e : ℕ) → elementRead (elementAt s at) ≡ some (f, e) → at < e
 unfolding elementAt placeIn
 place-after s at f e q = by-number (numberAt s at) refl q
   where
-    by-number : (x : Number) → numberAt s at ≡ x → elementRead (elementFrom s x) ≡ some (f, e) → at ≤ e
+    by-number : (x : Number) → numberAt s at ≡ x → elementRead (elementFrom s x) ≡ some (f, e) → at < e
     by-number Number.Not g q = let z : _≡_ {A = ℕ} 0 1 = cc in absurd (omega arith)
     by-number (Number.Is v c) g q = by-dash (eqb (getD s (c .at) 0) 45) q
       where
-        by-dash : (b : Bool) → elementRead (cond b (rangeFrom v (numberAt s (c .at + 1))) (Element.One v c)) ≡ some (f, e) → at ≤ e
+        by-dash : (b : Bool) → elementRead (cond b (rangeFrom v (numberAt s (c .at + 1))) (Element.One v c)) ≡ some (f, e) → at < e
         by-dash true q = omega (arith, number-after s at v c g, range-after s (c .at + 1) v (numberAt s (c .at + 1)) refl f e q)
         by-dash false q = omega (arith, number-after s at v c g, ap placeIn q)

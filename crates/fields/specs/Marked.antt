@@ -4,7 +4,7 @@ use mathlib.Core.List.{List, [], _∷_}
 use mathlib.Core.Option.{Option, none, some}
 use Prim.Native.Nat.{ℕ, _+_, _-_, _^_}
 use lib.Bits.{bitOr}
-use lib.Dec.{leb}
+use lib.Dec.{leb, eqb}
 use Rattle.lines.specs.Bytes.{byte}
 use Rattle.sheet.specs.Form.{Element as Form, one, range}
 use Rattle.words.specs.Lists.{listAt}
@@ -40,3 +40,7 @@ elementsAt s left at = listAt (λ (e : ℕ). elementRead (elementAt s e)) (byte 
 abbrev pub listedAs : ℕ → ℕ → Marks → Option (List Form × ℕ) → Listed
 listedAs low high m none = Listed.Not
 listedAs low high m (some r) = Listed.Is (marksOver low high m (r .0)) (cursor (r .1))
+
+-- what was marked by the place after it, which is 0 where there is no list
+abbrev pub endedAs : Marks → ℕ → Listed
+endedAs m end = cond (eqb end 0) Listed.Not (Listed.Is m (cursor end))
