@@ -1,13 +1,12 @@
 /* The stack that reading a line takes, over the lines of lines.h: each is read on a thread whose stack was filled beforehand.
-   Exit status 1 where one takes 16 KiB or more, or none at all, or is answered wrongly. The C of 123 minutes takes more, as
-   docs/BENCHMARKS.md says, and is held to what it takes. */
+   Exit status 1 where one takes 16 KiB or more, or none at all, or is answered wrongly. */
 #define _POSIX_C_SOURCE 200809L
 #include <stdio.h>
 
 #include "lines.h"
 #include "touched.h"
 
-enum { ORDERED = 16384, LONG_LIST = 2, LONG_LIST_MOST = 18432 };
+enum { MOST = 16384 };
 
 struct asked {
     const struct line_case *line;
@@ -35,12 +34,11 @@ int main(void) {
         memset(asked.frame, UNWRITTEN, FRAME_ROOM);
         size_t all = touched(ask, &asked, NULL);
         size_t used = all < base ? 0 : all - base;
-        size_t most = k == LONG_LIST ? LONG_LIST_MOST : ORDERED;
         int good = same_answer(answer, frame, asked.answer, asked.frame);
-        printf("%6zu of less than %zu bytes of stack  ", used, most);
+        printf("%6zu of less than %d bytes of stack  ", used, MOST);
         show_case(asked.line);
-        puts(!good ? ": WRONG" : used == 0 || used >= most ? ": MISSED" : "");
-        status |= used == 0 || used >= most || !good;
+        puts(!good ? ": WRONG" : used == 0 || used >= MOST ? ": MISSED" : "");
+        status |= used == 0 || used >= MOST || !good;
     }
     return status;
 }
