@@ -5,4 +5,4 @@ pub mod Spans
 pub mod Answers
 pub mod Whole
 pub mod Crons
-pub mod Parts
+pub mod Steps

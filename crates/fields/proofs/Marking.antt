@@ -1,16 +1,18 @@
 -- Elements marked one after the other.
-use mathlib.Core.Bool.{Bool, true, false, cond, _&&_}
+use mathlib.Core.Bool.{Bool, true, false, cond}
 use mathlib.Core.List.{List, [], _∷_}
 use mathlib.Core.Option.{Option, none, some}
 use mathlib.Core.Path.{_≡_, refl, sym, ap, _∙_}
 use Prim.Native.Nat.{ℕ, suc, _+_, _-_, _<_}
 use native.Mathlib.Omega.{arith}
-use borrow.Author.Tests.{leb-true, ne-eqb}
-use lib.Dec.{leb, eqb}
-use lib.ListN.{getD, drop}
+use borrow.Author.Tests.{ne-eqb}
+use lib.Dec.{eqb}
+use lib.ListN.{getD}
 use Rattle.sheet.specs.Form.{Element as Form, one, range}
+use Rattle.words.proofs.Afters.{number-after}
 use Rattle.words.proofs.Folding.{overAll, takenAs, taken-not, taken-last, taken-next}
-use Rattle.words.specs.Reads.{digitsIn, cursor, numberAt}
+use Rattle.words.specs.Answers.{numberRead}
+use Rattle.words.specs.Reads.{cursor, numberAt}
 use Rattle.words.specs.declared.cursor.Cursor.{Cursor}
 use Rattle.words.specs.declared.cursor.Number.{Number}
 use Rattle.fields.specs.Elements.{rangeFrom, elementFrom, elementAt, elementRead}
@@ -18,23 +20,6 @@ use Rattle.fields.specs.Marked.{marksOf, elementMarks, marksOver, elemen
 use Rattle.fields.specs.declared.element.Element.{Element}
 use Rattle.fields.specs.declared.list.Listed.{Listed}
 use Rattle.fields.specs.declared.marks.Marks.{Marks}
-
--- ---- the place after what was read lies after it
-number-after : (s : List ℕ) (at v : ℕ) (c : Cursor) → numberAt s at ≡ Number.Is v c → at < c .at
-unfolding numberAt
-number-after s at v c e = by-range (leb 1 n) (leb n 4) refl _ e
-  where
-    n : ℕ
-    n = digitsIn (drop at s)
-
-    placeOf : Number → ℕ
-    placeOf (Number.Is w d) = d .at
-    placeOf Number.Not = 0
-
-    by-range : (a b : Bool) → leb 1 n ≡ a → (w : ℕ) → cond (a && b) (Number.Is w (cursor (at + n))) Number.Not ≡ Number.Is v c → at < c .at
-    by-range true true g w e = omega (arith, leb-true 1 n g, ap placeOf e)
-    by-range true false g w e = let z : _≡_ {A = ℕ} 0 1 = cc in absurd (omega arith)
-    by-range false b g w e = let z : _≡_ {A = ℕ} 0 1 = cc in absurd (omega arith)
 
 -- what an element is read as
 pub record Read (low high : ℕ) (m : Marks) (x : Element) (marks : Marks) (c : Cursor) : Type 0 where
@@ -109,7 +94,7 @@ placeIn (some r) = r .1
 
 range-after : (s : List ℕ) (at n : ℕ) (x : Number) → numberAt s at ≡ x → (f : Form) (e : ℕ) → elementRead (rangeFrom n x) ≡ some (f, e) → at < e
 unfolding placeIn
-range-after s at n (Number.Is v c) g f e q = omega (arith, number-after s at v c g, ap placeIn q)
+range-after s at n (Number.Is v c) g f e q = omega (arith, number-after s at v (c .at) (ap numberRead g), ap placeIn q)
 range-after s at n Number.Not g f e q = let z : _≡_ {A = ℕ} 0 1 = cc in absurd (omega arith)
 
 pub place-after : (s : List ℕ) (at : ℕ) (f : Form) (e : ℕ) → elementRead (elementAt s at) ≡ some (f, e) → at < e
@@ -121,5 +106,5 @@ place-after s at f e q = by-number (numberAt s at) refl q
     by-number (Number.Is v c) g q = by-dash (eqb (getD s (c .at) 0) 45) q
       where
         by-dash : (b : Bool) → elementRead (cond b (rangeFrom v (numberAt s (c .at + 1))) (Element.One v c)) ≡ some (f, e) → at < e
-        by-dash true q = omega (arith, number-after s at v c g, range-after s (c .at + 1) v (numberAt s (c .at + 1)) refl f e q)
-        by-dash false q = omega (arith, number-after s at v c g, ap placeIn q)
+        by-dash true q = omega (arith, number-after s at v (c .at) (ap numberRead g), range-after s (c .at + 1) v (numberAt s (c .at + 1)) refl f e q)
+        by-dash false q = omega (arith, number-after s at v (c .at) (ap numberRead g), ap placeIn q)

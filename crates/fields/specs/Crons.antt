@@ -14,18 +14,18 @@ use Rattle.words.specs.Reads.{cursor}
 use Rattle.fields.specs.Fields.{fieldRead}
 use Rattle.fields.specs.declared.field.Field.{Field}
 use Rattle.fields.specs.declared.five.Five.{Five}
-use Rattle.fields.specs.declared.five.Part.{Part}
+use Rattle.fields.specs.declared.five.Step.{Step}
 
 -- what stands in one field, after others whose numbers are in range or not
-abbrev pub partAs : Bool → Field → Part
-partAs good (Field.Is mask restricted c) = Part.Is mask restricted good c
-partAs good (Field.Outside c) = Part.Is 0 false false c
-partAs good Field.Not = Part.Not
+abbrev pub stepAs : Bool → Field → Step
+stepAs good (Field.Is mask restricted c) = Step.Is mask restricted good c
+stepAs good (Field.Outside c) = Step.Is 0 false false c
+stepAs good Field.Not = Step.Not
 
 -- and the space after it
-abbrev pub spaceAfter : List ℕ → Part → Part
-spaceAfter s (Part.Is mask restricted good c) = cond (eqb (getD s (c .at) 0) (byte " ")) (Part.Is mask restricted good (cursor (c .at + 1))) Part.Not
-spaceAfter s Part.Not = Part.Not
+abbrev pub spaceAfter : List ℕ → Step → Step
+spaceAfter s (Step.Is mask restricted good c) = cond (eqb (getD s (c .at) 0) (byte " ")) (Step.Is mask restricted good (cursor (c .at + 1))) Step.Not
+spaceAfter s Step.Not = Step.Not
 
 -- "five cron fields, one space between"
 unfoldable pub cronRead : List ℕ → ℕ → Option (Line × ℕ)

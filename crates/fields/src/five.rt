@@ -2,7 +2,7 @@
 ghost use mathlib.Core.Bool.{cond};
 ghost use mathlib.Core.Path.{_≡_};
 ghost use Prim.Native.Nat.{_+_};
-ghost use Rattle.fields.specs.Crons.{partAs, spaceAfter, cronRead, fiveAs};
+ghost use Rattle.fields.specs.Crons.{stepAs, spaceAfter, cronRead, fiveAs};
 use crate::field::DayOfMonth;
 use crate::field::DayOfWeek;
 use crate::field::Field;
@@ -20,34 +20,34 @@ pub enum Five {
     Not,
 }
 
-enum Part {
+enum Step {
     // A field's mask, whether it is restricted, whether every number up to its end is in range, and where to read on.
     Is(u64, bool, bool, Cursor),
     Not,
 }
 
 // A field after others that were good or not. A number out of range does not end the reading: a later form error comes first.
-fn part_of(field: Field, good: bool) -> Part
-    ensures { λ r. ⌜ r ≡ partAs good field ⌝ }
+fn step_of(field: Field, good: bool) -> Step
+    ensures { λ r. ⌜ r ≡ stepAs good field ⌝ }
 {
     match field {
-        Field::Is(mask, restricted, next) => Part::Is(mask, restricted, good, next),
-        Field::Outside(next) => Part::Is(0, false, false, next),
-        Field::Not => Part::Not,
+        Field::Is(mask, restricted, next) => Step::Is(mask, restricted, good, next),
+        Field::Outside(next) => Step::Is(0, false, false, next),
+        Field::Not => Step::Not,
     }
 }
 
 // The same with one space after the field.
-fn spaced(s: &[u8], field: Field, good: bool) -> Part
-    ensures { λ r. ⌜ r ≡ spaceAfter (now (s .entry)) (partAs good field) ⌝ }
+fn spaced(s: &[u8], field: Field, good: bool) -> Step
+    ensures { λ r. ⌜ r ≡ spaceAfter (now (s .entry)) (stepAs good field) ⌝ }
 {
-    let Part::Is(mask, restricted, all_good, next) = part_of(field, good) else {
-        return Part::Not;
+    let Step::Is(mask, restricted, all_good, next) = step_of(field, good) else {
+        return Step::Not;
     };
     if next.byte(s) != SPACE {
-        return Part::Not;
+        return Step::Not;
     }
-    Part::Is(mask, restricted, all_good, Cursor { at: next.at + 1 })
+    Step::Is(mask, restricted, all_good, Cursor { at: next.at + 1 })
 }
 
 // "flags 1 (bit 0 day of month restricted, bit 1 day of week restricted)"
@@ -61,19 +61,19 @@ fn flags(days: bool, weekdays: bool) -> u64
 pub fn five_at(s: &[u8], c: Cursor) -> Five
     ensures { λ r. ⌜ r ≡ fiveAs (cronRead (now (s .entry)) (c .at)) ⌝ }
 {
-    let Part::Is(minutes, _, good, next) = spaced(s, Minute::minute(s, c), true) else {
+    let Step::Is(minutes, _, good, next) = spaced(s, Minute::minute(s, c), true) else {
         return Five::Not;
     };
-    let Part::Is(hours, _, good, next) = spaced(s, Hour::hour(s, next), good) else {
+    let Step::Is(hours, _, good, next) = spaced(s, Hour::hour(s, next), good) else {
         return Five::Not;
     };
-    let Part::Is(days, day, good, next) = spaced(s, DayOfMonth::day_of_month(s, next), good) else {
+    let Step::Is(days, day, good, next) = spaced(s, DayOfMonth::day_of_month(s, next), good) else {
         return Five::Not;
     };
-    let Part::Is(months, _, good, next) = spaced(s, Month::month(s, next), good) else {
+    let Step::Is(months, _, good, next) = spaced(s, Month::month(s, next), good) else {
         return Five::Not;
     };
-    let Part::Is(weekdays, weekday, good, next) = part_of(DayOfWeek::day_of_week(s, next), good)
+    let Step::Is(weekdays, weekday, good, next) = step_of(DayOfWeek::day_of_week(s, next), good)
     else {
         return Five::Not;
     };

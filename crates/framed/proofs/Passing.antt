@@ -20,7 +20,7 @@ pub cond-passes : {A : Type 0} (test : A → Bool) (b : Bool) (x y : Option A) �
 cond-passes test true x y e f = e
 cond-passes test false x y e f = f
 
-all-anything : {A : Type 0} (xs : List A) → allOf anything xs ≡ true
+pub all-anything : {A : Type 0} (xs : List A) → allOf anything xs ≡ true
 all-anything [] = refl
 all-anything (x ∷ xs) = all-anything xs
 

@@ -1,5 +1,4 @@
 -- The lines T and R: a time, a space, and one more value.
-use mathlib.Core.Bool.{false}
 use mathlib.Core.List.{List, [], _∷_, _++_}
 use mathlib.Core.Option.{Option, none, some}
 use mathlib.Core.Path.{_≡_, refl}
@@ -10,11 +9,12 @@ use lib.Dec.{eqb}
 use lib.ListN.{length, getD, drop}
 use Rattle.sheet.specs.Form.{Time, timeOf, Form}
 use Rattle.sheet.specs.Words.{pieces}
+use Rattle.words.proofs.Ends.{End, nothing, space as after-space, end-digits, end-stops, end-letter}
 use Rattle.words.proofs.Forms.{Stops, time-tied}
 use Rattle.words.proofs.Sequence.{only, only-tied, then-tied}
 use Rattle.words.proofs.Tied.{made, Tied, tied-made}
 use Rattle.words.specs.Answers.{madeRead, timeAs, timeRead, thenAt}
-use Rattle.words.specs.Reads.{digitsIn, timeAt}
+use Rattle.words.specs.Reads.{timeAt}
 use Rattle.words.specs.declared.cursor.Cursor.{Cursor}
 use Rattle.words.specs.declared.cursor.Time.{Time as ReadTime}
 use Rattle.words.specs.declared.cursor.Timed.{Timed}
@@ -25,22 +25,15 @@ pub data Stop : List ℕ → Type 0 where
   over : Stop []
   space : (rest : List ℕ) → Stop (32 ∷ rest)
 
-stop-digits : {tail : List ℕ} → Stop tail → digitsIn tail ≡ 0
-unfolding digitsIn
-stop-digits over = refl
-stop-digits (space rest) = refl
+stop-end : {tail : List ℕ} → Stop tail → End tail
+stop-end over = nothing
+stop-end (space rest) = after-space rest
 
 pub stop-signs : {tail : List ℕ} → Stop tail → Stops tail
-unfolding digitsIn
-stop-signs over = record { digits = refl; plus = refl; minus = refl }
-stop-signs (space rest) = record { digits = refl; plus = refl; minus = refl }
-
-stop-letter : {tail : List ℕ} → Stop tail → eqb (getD tail 0 0) 84 ≡ false
-stop-letter over = refl
-stop-letter (space rest) = refl
+stop-signs stop = end-stops (stop-end stop)
 
 pub time-here : (s : List ℕ) (at : ℕ) (p tail : List ℕ) → drop at s ≡ p ++ tail → Stop tail → Tied (timeOf p) (timeRead (timeAt s at)) at (at + length p)
-time-here s at p tail here stop = time-tied s at p tail (stop-digits stop) (stop-letter stop) here
+time-here s at p tail here stop = time-tied s at p tail (end-digits (stop-end stop)) (end-letter (stop-end stop)) here
 
 -- the value by its form and its reader, and the line that it makes with the time
 module _ {A : Type 0} (s : List ℕ) (form : List ℕ → Option A) (read : ℕ → Option (A × ℕ)) (line : Time → A → Form) where

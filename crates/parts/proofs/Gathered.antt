@@ -9,6 +9,7 @@ use borrow.Author.Tests.{eq-eqb, ne-eqb, eqb-true, eqb-false}
 use lib.Dec.{eqb}
 use lib.ListN.{length}
 use Rattle.calendar.specs.Below.{anyOf, allOf}
+use Rattle.entries.specs.Lists.{weekdaysGiven, numbersGiven}
 use Rattle.masks.proofs.MaskFroms.{mask-ext, mask-from-same, mask-from-below, bit-in-mask}
 use Rattle.masks.proofs.WithBits.{bit-of-with-bit, with-bit-below}
 use Rattle.masks.specs.Masks.{bit, maskFrom, withBit}
@@ -20,7 +21,7 @@ use Rattle.words.proofs.Folding.{overAll, takenAs}
 use Rattle.words.specs.Lists.{listAt}
 use Rattle.words.specs.Reads.{cursor}
 use Rattle.parts.specs.Given.{nameIn, goodIn, withValue, taken, frequencyFrom, countFrom, untilFrom, daysFrom, numbersFrom, partsGiven, partsRead, partsAs}
-use Rattle.parts.specs.Values.{partAs, partRead, weekdaysGiven, numbersGiven}
+use Rattle.parts.specs.Values.{partAs, partRead}
 use Rattle.parts.specs.declared.given.Given.{Given as Answer}
 use Rattle.parts.specs.declared.given.Parts.{Parts}
 

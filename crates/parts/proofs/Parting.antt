@@ -3,14 +3,15 @@ use mathlib.Core.List.{List}
 use mathlib.Core.Option.{Option, none, some}
 use mathlib.Core.Path.{_≡_, refl}
 use Prim.Native.Nat.{ℕ}
+use Rattle.entries.specs.Lists.{daysAs, numbersAs}
 use Rattle.sheet.specs.Form.{Entry, byDay, byMonthDay, bySetPos}
 use Rattle.sheet.specs.Words.{Signed}
 use Rattle.words.specs.Answers.{madeRead}
-use Rattle.parts.specs.Values.{daysAs, numbersAs, partAs, partedAs}
-use Rattle.parts.specs.declared.numbers.Listed.{Listed}
+use Rattle.parts.specs.Values.{partAs, partedAs}
+use Rattle.entries.specs.declared.numbers.Listed.{Listed}
 use Rattle.parts.specs.declared.part.Part.{Part}
 use Rattle.parts.specs.declared.part.Parted.{Parted}
-use Rattle.parts.specs.declared.weekdays.Days.{Days}
+use Rattle.entries.specs.declared.weekdays.Days.{Days}
 
 unfoldable pub daysParted : Days → Parted
 daysParted (Days.Is d c) = Parted.Is (Part.Days d) c

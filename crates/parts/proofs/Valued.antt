@@ -7,35 +7,22 @@ use Prim.Native.Nat.{ℕ, zero, suc, _+_, _<_}
 use native.Mathlib.Omega.{arith}
 use lib.Dec.{eqb}
 use lib.ListN.{length, getD, drop, length-append, length-drop}
+use Rattle.entries.proofs.Entries.{days-tied, numbers-tied}
 use Rattle.sheet.specs.Form.{timeOf, entryOf, frequencyWords, frequencyAt, Part, freq, interval, count, until, byDay, byMonthDay, bySetPos, partBy, valueOf}
 use Rattle.sheet.specs.Words.{wordIn, numberOf, signedOf, pieces, eachOf}
-use Rattle.words.proofs.Choices.{wordOf, prefixFree, one-tied}
-use Rattle.words.proofs.Forms.{signed-tied, time-tied}
-use Rattle.words.proofs.Listing.{list-tied}
+use Rattle.words.proofs.Choices.{wordOf, prefixFree, without, one-tied}
+use Rattle.words.proofs.Ends.{End, end-byte, end-digits, end-letter}
+use Rattle.words.proofs.Forms.{time-tied}
+use Rattle.words.proofs.Named.{word-tested, word-place}
 use Rattle.words.proofs.Tied.{made, Tied, tied-made, number-tied}
-use Rattle.words.specs.Answers.{madeRead, signedRead}
-use Rattle.words.specs.Lists.{listAt}
-use Rattle.words.specs.Reads.{startsWith, signedAt}
-use Rattle.parts.specs.Values.{entryRead, daysRead, numbersRead, frequencyOf, valueRead}
-use Rattle.parts.proofs.Ends.{End, comma, end-digits, end-stops, end-letter, end-frequencies, word-tested, word-place}
-use Rattle.parts.proofs.Entries.{entry-tied}
+use Rattle.words.specs.Answers.{madeRead}
+use Rattle.words.specs.Reads.{startsWith}
+use Rattle.parts.specs.Values.{frequencyOf, valueRead}
 
--- ---- lists with as many steps as a line has bytes
-module _ {A : Type 0} (s : List ℕ) (read : ℕ → Option (A × ℕ)) (separator : ℕ) (form : List ℕ → Option A) (Stop : List ℕ → Type 0) (stop : (rest : List ℕ) → Stop (separator ∷ rest))
-    (tie : (at : ℕ) (p tail : List ℕ) → drop at s ≡ p ++ tail → Stop tail → Tied (form p) (read at) at (at + length p)) where
-  pub all-tied : (at : ℕ) (p tail : List ℕ) → drop at s ≡ p ++ tail → Stop tail → eqb (getD tail 0 0) separator ≡ false
-      → Tied (eachOf form (pieces separator p)) (listAt read separator s (length s + 1) at) at (at + length p)
-  all-tied at p tail here stops other =
-      list-tied read separator s form Stop stop tie tail stops other (length s + 1) at p here (omega (arith, ap length here, length-append p tail, length-drop at s))
-
-module _ (s : List ℕ) (at : ℕ) (p tail : List ℕ) (here : drop at s ≡ p ++ tail) (ends : End tail) (other : eqb (getD tail 0 0) 44 ≡ false) where
-  pub days-tied : Tied (eachOf entryOf (pieces 44 p)) (daysRead s at) at (at + length p)
-  unfolding daysRead
-  days-tied = all-tied s (entryRead s) 44 entryOf End comma (entry-tied s) at p tail here ends other
-
-  pub numbers-tied : Tied (eachOf signedOf (pieces 44 p)) (numbersRead s at) at (at + length p)
-  unfolding numbersRead
-  numbers-tied = all-tied s (λ (e : ℕ). signedRead (signedAt s e)) 44 signedOf End comma (λ at p tail here ends. signed-tied s at tail (end-stops ends) p here) at p tail here ends other
+-- no byte of a frequency stands after it
+pub end-frequencies : {tail : List ℕ} → End tail → without (getD tail 0 0) frequencyWords ≡ true
+unfolding frequencyWords
+end-frequencies = end-byte (λ c. without c frequencyWords ≡ true) refl refl refl refl refl
 
 -- ---- the forms of values
 part-made : {A : Type 0} (part : A → Part) (o : Option A) → partBy part o ≡ made part o

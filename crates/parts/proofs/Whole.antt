@@ -10,17 +10,18 @@ use lib.ListN.{length, getD, drop, length-append}
 use Rattle.sheet.specs.Form.{partWords, valueOf, named, partOf}
 use Rattle.sheet.specs.Words.{wordIn, pieces, eachOf}
 use Rattle.words.proofs.Choices.{wordOf, without}
-use Rattle.words.proofs.Listing.{after-rest}
+use Rattle.words.proofs.Ends.{End, nothing, space, semicolon, equals, end-byte}
+use Rattle.words.proofs.Listing.{after-rest, all-tied}
+use Rattle.words.proofs.Named.{word-tested, word-place}
 use Rattle.words.proofs.Pieces.{After, ended, more, Cut, cut-of}
 use Rattle.words.proofs.Sequence.{only, only-tied}
 use Rattle.words.proofs.Tied.{Tied, tied-from, tied-none}
 use Rattle.words.specs.Answers.{oneAt}
 use Rattle.parts.specs.Given.{partsRead}
 use Rattle.parts.specs.Values.{partHeads, valueRead, partRead}
-use Rattle.parts.proofs.Ends.{End, nothing, space, semicolon, equals, end-byte, word-tested, word-place}
 use Rattle.parts.proofs.Heads.{Whole, heads, placed, heads-same, heads-never}
 use Rattle.parts.proofs.Places.{part-value, part-not}
-use Rattle.parts.proofs.Valued.{all-tied, value-tied}
+use Rattle.parts.proofs.Valued.{value-tied}
 
 -- what may stand after a part: nothing, a space or `;`
 pub record PartStops (tail : List ℕ) : Type 0 where

@@ -6,6 +6,7 @@ use Prim.Native.Nat.{ℕ, _+_}
 use lib.Dec.{eqb}
 use lib.ListN.{length}
 use Rattle.calendar.specs.Below.{within, anyOf, allOf}
+use Rattle.entries.specs.Lists.{weekdaysGiven, numbersGiven}
 use Rattle.framed.specs.Framed.{frequencyNumber}
 use Rattle.lines.specs.Bytes.{byte}
 use Rattle.masks.specs.Masks.{bit, maskFrom, withBit}
@@ -15,12 +16,12 @@ use Rattle.sheet.specs.Range.{timeInRange, minuteOf, partInRange}
 use Rattle.sheet.specs.Words.{Signed}
 use Rattle.words.specs.Lists.{listAt}
 use Rattle.words.specs.Reads.{cursor}
-use Rattle.parts.specs.Values.{partRead, weekdaysGiven, numbersGiven}
-use Rattle.parts.specs.declared.weekdays.Weekdays.{Weekdays}
+use Rattle.parts.specs.Values.{partRead}
+use Rattle.entries.specs.declared.weekdays.Weekdays.{Weekdays}
 use Rattle.parts.specs.declared.given.Given.{Given}
 use Rattle.parts.specs.declared.given.Parts.{Parts}
 use Rattle.parts.specs.declared.given.Value.{Value}
-use Rattle.parts.specs.declared.numbers.Numbers.{Numbers}
+use Rattle.entries.specs.declared.numbers.Numbers.{Numbers}
 use Rattle.parts.specs.declared.part.Part.{Part as ReadPart}
 
 abbrev pub nameIn : ReadPart → ℕ

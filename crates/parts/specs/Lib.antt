@@ -1,4 +1,3 @@
 -- The parts of a rule, read at a place.
 pub mod Values
-pub mod Marks
 pub mod Given

@@ -2,13 +2,13 @@
 ghost use mathlib.Core.List.{[]};
 ghost use mathlib.Core.Path.{_≡_};
 ghost use Rattle.parts.specs.Given.{nameIn, goodIn, valueGiven, withValue, taken, partsGiven, partsAs, partsRead};
-use crate::numbers::Numbers;
 use crate::part;
 use crate::part::Part;
 use crate::part::Parted;
 use crate::part::part_at;
-use crate::weekdays::Weekdays;
 use calendar::num::lies_within;
+use entries::numbers::Numbers;
+use entries::weekdays::Weekdays;
 use frames::truth::both;
 use words::cursor::Cursor;
 use words::cursor::SEMICOLON;

@@ -1,15 +1,15 @@
 // One part of a rule: its name, then its value.
 ghost use mathlib.Core.Path.{_≡_};
 ghost use Rattle.parts.specs.Values.{valueRead, partRead, partedAs};
-use crate::names::Named;
 use crate::names::frequency_at;
 use crate::names::name_at;
-use crate::numbers::Listed;
-use crate::numbers::Numbers;
-use crate::numbers::numbers_at;
-use crate::weekdays::Days;
-use crate::weekdays::Weekdays;
-use crate::weekdays::days_at;
+use entries::numbers::Listed;
+use entries::numbers::Numbers;
+use entries::numbers::numbers_at;
+use entries::weekdays::Days;
+use entries::weekdays::Weekdays;
+use entries::weekdays::days_at;
+use words::choice::Named;
 use words::cursor::Cursor;
 use words::cursor::Number;
 use words::cursor::Timed;
@@ -31,7 +31,7 @@ pub(crate) const BYMONTHDAY: u64 = 5;
 
 pub(crate) const BYSETPOS: u64 = 6;
 
-pub enum Part {
+pub(crate) enum Part {
     // 1 daily, 2 weekly, 3 monthly.
     Frequency(u64),
     Interval(u64),
@@ -43,7 +43,7 @@ pub enum Part {
     Positions(Numbers),
 }
 
-pub enum Parted {
+pub(crate) enum Parted {
     Is(Part, Cursor),
     Not,
 }
@@ -114,7 +114,7 @@ fn by_set_pos(s: &[u8], c: Cursor) -> Parted
     Parted::Is(Part::Positions(positions), next)
 }
 
-pub fn part_at(s: &[u8], c: Cursor) -> Parted
+pub(crate) fn part_at(s: &[u8], c: Cursor) -> Parted
     ensures { λ r. ⌜ r ≡ partedAs (partRead (now (s .entry)) (c .at)) ⌝ }
 {
     let Named::Is(name, next) = name_at(s, c) else {

@@ -14,7 +14,7 @@ use Rattle.framed.specs.Framed.{nothing, endsOf, weekdaysOf, daysOf, frequencyN
 use Rattle.frames.specs.declared.Ends.{Ends}
 use Rattle.frames.specs.declared.Rule.{Rule}
 use Rattle.parts.specs.Given.{daysFrom, numbersFrom, partsGiven}
-use Rattle.parts.specs.Values.{weekdaysGiven, numbersGiven}
+use Rattle.entries.specs.Lists.{weekdaysGiven, numbersGiven}
 use Rattle.parts.specs.declared.given.Parts.{Parts}
 use Rattle.sheet.specs.Form.{Entry, Frequency, daily, weekly, monthly, Part}
 use Rattle.sheet.specs.Parts.{Given, givenOf, isGiven, givenTwice, ordinals, clashing, byFrequency, partsTogether}

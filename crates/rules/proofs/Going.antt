@@ -7,7 +7,7 @@ use Prim.Native.Nat.{ℕ}
 use native.Mathlib.Omega.{arith}
 use borrow.Author.Tests.{ne-eqb}
 use Rattle.parts.specs.Given.{frequencyFrom, countFrom, untilFrom, daysFrom, numbersFrom, partsGiven}
-use Rattle.parts.specs.Values.{weekdaysGiven, numbersGiven}
+use Rattle.entries.specs.Lists.{weekdaysGiven, numbersGiven}
 use Rattle.parts.specs.declared.given.Parts.{Parts}
 use Rattle.sheet.specs.Form.{Time, Entry, Frequency, daily, weekly, monthly, Part}
 use Rattle.sheet.specs.Parts.{Given, givenOf, isGiven, givenTwice, ordinals, clashing, byFrequency, partsTogether}

@@ -7,7 +7,7 @@ use Prim.Native.Nat.{ℕ, zero, suc, _+_, _-_, _<_, _≤_}
 use native.Mathlib.Omega.{arith}
 use borrow.Author.Tests.{eq-eqb}
 use lib.Dec.{eqb}
-use lib.ListN.{length, getD, drop, length-append, List·getD-append}
+use lib.ListN.{length, getD, drop, length-append, length-drop, List·getD-append}
 use lib.Seq.{getD-drop, drop-drop}
 use Rattle.zone.proofs.Good.{by-order}
 use Rattle.sheet.specs.Words.{pieces, eachOf}
@@ -170,3 +170,11 @@ module _ {A : Type 0} (read : ℕ → Option (A × ℕ)) (separator : ℕ) (s : 
                 rw n
                 (next-tied left at q rest f whole (λ from g. again from rest g (omega (arith, ap length e, length-append q (separator ∷ rest)))) (read at) refl
                 (tie at q (separator ∷ (rest ++ tail)) f (stop (rest ++ tail))))
+
+-- ---- lists with as many steps as a line has bytes
+module _ {A : Type 0} (s : List ℕ) (read : ℕ → Option (A × ℕ)) (separator : ℕ) (form : List ℕ → Option A) (Stop : List ℕ → Type 0) (stop : (rest : List ℕ) → Stop (separator ∷ rest))
+    (tie : (at : ℕ) (p tail : List ℕ) → drop at s ≡ p ++ tail → Stop tail → Tied (form p) (read at) at (at + length p)) where
+  pub all-tied : (at : ℕ) (p tail : List ℕ) → drop at s ≡ p ++ tail → Stop tail → eqb (getD tail 0 0) separator ≡ false
+      → Tied (eachOf form (pieces separator p)) (listAt read separator s (length s + 1) at) at (at + length p)
+  all-tied at p tail here stops other =
+      list-tied read separator s form Stop stop tie tail stops other (length s + 1) at p here (omega (arith, ap length here, length-append p tail, length-drop at s))

@@ -7,7 +7,8 @@ use lib.Dec.{eqb}
 use lib.ListN.{length, getD, drop}
 use Rattle.sheet.specs.Form.{Shift, Time}
 use Rattle.sheet.specs.Words.{Signed}
-use Rattle.words.specs.Reads.{startsWith}
+use Rattle.words.specs.Reads.{startsWith, cursor}
+use Rattle.words.specs.declared.choice.Named.{Named}
 use Rattle.words.specs.declared.cursor.Number.{Number}
 use Rattle.words.specs.declared.cursor.Shift.{Shift as ReadShift}
 use Rattle.words.specs.declared.cursor.Shifted.{Shifted}
@@ -46,6 +47,15 @@ timeRead Timed.Not = none
 unfoldable pub oneAt : List (List ℕ) → List ℕ → ℕ → Option (ℕ × ℕ)
 oneAt [] s at = none
 oneAt (w ∷ ws) s at = cond (startsWith w (drop at s)) (some (0, at + length w)) (madeRead suc (oneAt ws s at))
+
+abbrev pub namedAs : Option (ℕ × ℕ) → Named
+namedAs none = Named.Not
+namedAs (some r) = Named.Is (r .0) (cursor (r .1))
+
+-- what was found before, else a word with its place
+abbrev pub orWord : Named → List ℕ → ℕ → List ℕ → ℕ → Named
+orWord (Named.Is k c) w place s at = Named.Is k c
+orWord Named.Not w place s at = namedAs (cond (startsWith w (drop at s)) (some (place, at + length w)) none)
 
 -- a value, a separator, and what is read after it
 abbrev pub thenAt : {A B : Type 0} → ℕ → List ℕ → (A → ℕ → Option (B × ℕ)) → Option (A × ℕ) → Option (B × ℕ)

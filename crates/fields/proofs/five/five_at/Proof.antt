@@ -2,7 +2,7 @@
 use borrow.Author.Needs.{needs}
 use borrow.Author.Tests.{not-true, not-false}
 use denote.Ref.{now}
-use Rattle.fields.proofs.Parts.{last-not, last-is, spaced-not, spaced-is, no-minute, no-hour, no-day, no-month, no-weekday, five-outside, five-is}
+use Rattle.fields.proofs.Steps.{last-not, last-is, spaced-not, spaced-is, no-minute, no-hour, no-day, no-month, no-weekday, five-outside, five-is}
 use Rattle.fields.proofs.five.five_at.Statement.{statement}
 use Rattle.fields.proofs.five.five_at.Tie as tie
 
@@ -83,8 +83,8 @@ returns-4 c =
 day-of-week-requires : tie.Need-day-of-week-requires
 day-of-week-requires c κs = search needs
 
-part-of-requires : tie.Need-part-of-requires
-part-of-requires c κs = search needs
+step-of-requires : tie.Need-step-of-requires
+step-of-requires c κs = search needs
 
 enum-known-weekdays : tie.Need-enum-known-weekdays
 enum-known-weekdays c = search needs
@@ -99,7 +99,7 @@ returns-5 c =
     let h = spaced-is (now (a .s)) 0 23 _ _ (c .before .before .before .before .before .before .before .before .before .before .before .before .before .before .before .before .before .before .hour .ensures) (c .before .before .before .before .before .before .before .before .before .before .before .before .before .before .before .before .before .spaced2 .ensures) (c .before .before .before .before .before .before .before .before .before .before .before .before .before .before .before .hours .given .1) in
     let d = spaced-is (now (a .s)) 1 31 _ _ (c .before .before .before .before .before .before .before .before .before .before .before .before .before .day-of-month .ensures) (c .before .before .before .before .before .before .before .before .before .before .before .before .spaced3 .ensures) (c .before .before .before .before .before .before .before .before .before .before .days .given .1) in
     let mo = spaced-is (now (a .s)) 1 12 _ _ (c .before .before .before .before .before .before .before .before .month .ensures) (c .before .before .before .before .before .before .before .spaced4 .ensures) (c .before .before .before .before .before .months .given .1) in
-    no-weekday (now (a .s)) (a .c .at) m h d mo (last-not (now (a .s)) 0 6 _ _ (c .before .before .before .day-of-week .ensures) (c .before .before .part-of .ensures) (c .enum-told5 .given .1))
+    no-weekday (now (a .s)) (a .c .at) m h d mo (last-not (now (a .s)) 0 6 _ _ (c .before .before .before .day-of-week .ensures) (c .before .before .step-of .ensures) (c .enum-told5 .given .1))
 
 returns-6 : tie.Need-returns-6
 returns-6 c =
@@ -108,7 +108,7 @@ returns-6 c =
     let h = spaced-is (now (a .s)) 0 23 _ _ (c .before .before .before .before .before .before .before .before .before .before .before .before .before .before .before .before .before .before .before .before .hour .ensures) (c .before .before .before .before .before .before .before .before .before .before .before .before .before .before .before .before .before .before .before .spaced2 .ensures) (c .before .before .before .before .before .before .before .before .before .before .before .before .before .before .before .before .before .hours .given .1) in
     let d = spaced-is (now (a .s)) 1 31 _ _ (c .before .before .before .before .before .before .before .before .before .before .before .before .before .before .before .day-of-month .ensures) (c .before .before .before .before .before .before .before .before .before .before .before .before .before .before .spaced3 .ensures) (c .before .before .before .before .before .before .before .before .before .before .before .before .days .given .1) in
     let mo = spaced-is (now (a .s)) 1 12 _ _ (c .before .before .before .before .before .before .before .before .before .before .month .ensures) (c .before .before .before .before .before .before .before .before .before .spaced4 .ensures) (c .before .before .before .before .before .before .before .months .given .1) in
-    let w = last-is (now (a .s)) 0 6 _ _ (c .before .before .before .before .before .day-of-week .ensures) (c .before .before .before .before .part-of .ensures) (c .before .before .weekdays .given .1) in
+    let w = last-is (now (a .s)) 0 6 _ _ (c .before .before .before .before .before .day-of-week .ensures) (c .before .before .before .before .step-of .ensures) (c .before .before .weekdays .given .1) in
     five-outside (now (a .s)) (a .c .at) m h d mo w (not-true _ (c .if1 .taken))
 
 flags-requires : tie.Need-flags-requires
@@ -121,7 +121,7 @@ returns-7 c =
     let h = spaced-is (now (a .s)) 0 23 _ _ (c .before .before .before .before .before .before .before .before .before .before .before .before .before .before .before .before .before .before .before .before .before .hour .ensures) (c .before .before .before .before .before .before .before .before .before .before .before .before .before .before .before .before .before .before .before .before .spaced2 .ensures) (c .before .before .before .before .before .before .before .before .before .before .before .before .before .before .before .before .before .before .hours .given .1) in
     let d = spaced-is (now (a .s)) 1 31 _ _ (c .before .before .before .before .before .before .before .before .before .before .before .before .before .before .before .before .day-of-month .ensures) (c .before .before .before .before .before .before .before .before .before .before .before .before .before .before .before .spaced3 .ensures) (c .before .before .before .before .before .before .before .before .before .before .before .before .before .days .given .1) in
     let mo = spaced-is (now (a .s)) 1 12 _ _ (c .before .before .before .before .before .before .before .before .before .before .before .month .ensures) (c .before .before .before .before .before .before .before .before .before .before .spaced4 .ensures) (c .before .before .before .before .before .before .before .before .months .given .1) in
-    let w = last-is (now (a .s)) 0 6 _ _ (c .before .before .before .before .before .before .day-of-week .ensures) (c .before .before .before .before .before .part-of .ensures) (c .before .before .before .weekdays .given .1) in
+    let w = last-is (now (a .s)) 0 6 _ _ (c .before .before .before .before .before .before .day-of-week .ensures) (c .before .before .before .before .before .step-of .ensures) (c .before .before .before .weekdays .given .1) in
     rw (c .flags .ensures) (five-is (now (a .s)) (a .c .at) m h d mo w (not-false _ (c .before .if1 .left)))
 
 pub five-at-spec : {M : Type 1} → statement M
@@ -149,7 +149,7 @@ five-at-spec =
     enum-told-4
     returns-4
     day-of-week-requires
-    part-of-requires
+    step-of-requires
     enum-known-weekdays
     enum-told-5
     returns-5

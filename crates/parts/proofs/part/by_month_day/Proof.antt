@@ -1,7 +1,8 @@
 -- The list after the name.
 use mathlib.Core.Path.{sym, ap, _∙_}
 use denote.Ref.{now}
-use Rattle.parts.specs.Values.{numbersRead, valueRead}
+use Rattle.entries.specs.Lists.{numbersRead}
+use Rattle.parts.specs.Values.{valueRead}
 use Rattle.parts.proofs.Parting.{daysNumbered, month-days-parted}
 use borrow.Author.Needs.{needs}
 use Rattle.parts.proofs.part.by_month_day.Statement.{statement}

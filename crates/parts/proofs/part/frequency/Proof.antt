@@ -7,8 +7,8 @@ use Rattle.framed.specs.Framed.{frequencyNumber}
 use Rattle.sheet.specs.Form.{frequencyWords}
 use Rattle.words.specs.Answers.{oneAt}
 use Rattle.parts.specs.Values.{frequencyOf, valueRead, partAs}
-use Rattle.parts.proofs.Answers.{named-is, named-not}
-use Rattle.parts.proofs.Places.{one-below}
+use Rattle.words.proofs.Named.{named-is, named-not}
+use Rattle.words.proofs.Afters.{one-below}
 use borrow.Author.Needs.{needs}
 use Rattle.parts.proofs.part.frequency.Statement.{statement}
 use Rattle.parts.proofs.part.frequency.Tie as tie

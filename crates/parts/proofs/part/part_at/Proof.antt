@@ -5,8 +5,9 @@ use native.Mathlib.Omega.{arith}
 use denote.Ref.{now}
 use Rattle.words.specs.Answers.{oneAt}
 use Rattle.parts.specs.Values.{partHeads}
-use Rattle.parts.proofs.Answers.{named-is, named-not}
-use Rattle.parts.proofs.Places.{one-below, part-value, part-not}
+use Rattle.words.proofs.Named.{named-is, named-not}
+use Rattle.parts.proofs.Places.{part-value, part-not}
+use Rattle.words.proofs.Afters.{one-below}
 use borrow.Author.Needs.{needs}
 use Rattle.parts.proofs.part.part_at.Statement.{statement}
 use Rattle.parts.proofs.part.part_at.Tie as tie

@@ -1,0 +1,3 @@
+-- The lists of a rule, read at a place.
+pub mod Lists
+pub mod Marks
