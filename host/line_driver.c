@@ -5,7 +5,7 @@
    BEFORE says what stands before the line: 0 nothing, 1 a Z and CHANGES of T, 2 other lines. LOW is the least instant of a next transition
    and OFFSET the offset before it, both moved up by 1,440. ROOM is the length of the buffer, at most 4,096. TEXT is the line without LF, all
    that is left of the request: bytes 20 to 7E but for `\`, any other as `\` and two hex digits. FRAME is the buffer's front, so many bytes as
-   the answer says, written likewise; `-` for none.
+   the answer says, written likewise; `-` for none. A frame for which the buffer has no room is not written: `0 0 -`.
 
    Each call is made twice, with line and buffer at either side of a page that may not be touched (lent.h); a call that goes astray, or
    writes the line, ends the driver with status 3. A word more is said in the answer where the two calls differ, or a byte of a buffer

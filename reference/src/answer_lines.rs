@@ -29,6 +29,9 @@ pub struct Context {
     pub offset: i64,
 }
 
+/// At most so many T are written out: far too many already, so that more of them change no answer.
+const MOST_WRITTEN: i64 = 1_000;
+
 impl Context {
     /// The four numbers of the entry. Instants and offsets are moved up by a day, both are 0 where nothing stands before.
     fn numbers(&self) -> [i64; 4] {
@@ -67,7 +70,7 @@ impl Context {
         match self.before {
             Before::Nothing => Vec::new(),
             Before::Zone { changes } => {
-                let transitions = (0..changes).map(|_| last());
+                let transitions = (0..changes.min(MOST_WRITTEN)).map(|_| last());
                 [zone].into_iter().chain(transitions).collect()
             }
             Before::Lines => vec![zone, Line::Extra(0)],
@@ -82,7 +85,7 @@ pub fn request(context: &Context, room: i64, line: &[u8]) -> String {
     format!("line {before} {changes} {low} {offset} {room} {line}")
 }
 
-/// `NUMBER LENGTH FRAME`; none if the request is none about a line.
+/// `NUMBER LENGTH FRAME`; a frame for which the buffer has no room is not written. None if the request is none about a line.
 pub fn answer(request: &str) -> Option<String> {
     let mut words = request.splitn(7, ' ').skip(1);
     let mut number = || words.next()?.parse::<i64>().ok();
@@ -91,10 +94,8 @@ pub fn answer(request: &str) -> Option<String> {
     let line = bytes_of(words.next()?)?;
     let context = Context::of_numbers(numbers)?;
     Some(match answer_in(&context, &line) {
-        Ok(frame) => {
-            assert!(frame.len() as i64 <= room, "a frame's line fits");
-            format!("0 {} {}", frame.len(), shown(frame.as_bytes()))
-        }
+        Ok(frame) if frame.len() as i64 > room => "0 0 -".to_string(),
+        Ok(frame) => format!("0 {} {}", frame.len(), shown(frame.as_bytes())),
         Err(number) => format!("{number} 0 -"),
     })
 }

@@ -61,6 +61,10 @@ fn transitions() {
         (1, 13_801_021, 60, 7),
         (31, 13_801_020, 60, 0),
         (32, 13_801_020, 60, 4),
+        (33, 13_801_020, 60, 4),
+        (64, 13_801_020, 60, 4),
+        (256, 13_801_020, 60, 4),
+        (1 << 32, 13_801_020, 60, 4),
         (1, 0, 120, 7),
         (1, 0, 119, 0),
         (1, 0, 300, 0),
@@ -92,6 +96,20 @@ fn requests_say_bytes_and_numbers() {
     );
     assert_eq!(answer("line 3 0 0 0 80 Z +0100"), None);
     assert_eq!(answer("line 0 0 0 0 80"), None);
+}
+
+/// A line that is taken stays so, and one that is refused too.
+#[test]
+fn a_buffer_may_be_too_small() {
+    for (room, line, wanted) in [
+        (0, "Z +0100", "0 0 -"),
+        (6, "Z +0100", "0 0 -"),
+        (7, "Z +0100", "0 7 01003C\\0A"),
+        (0, "Z +1401", "5 0 -"),
+    ] {
+        let asked = request(&NOTHING, room, line.as_bytes());
+        assert_eq!(answer(&asked).as_deref(), Some(wanted), "{asked}");
+    }
 }
 
 /// What stands before the next line, by the taken lines themselves.
@@ -213,4 +231,38 @@ fn the_suite_asks_enough() {
     for tag in *b"ZTCRDX" {
         assert!(taken[&tag] >= 1_000, "{tag}: {taken:?}");
     }
+}
+
+/// A line of each kind in a buffer of no bytes, of one too few and of just enough.
+#[test]
+fn the_suite_asks_small_buffers() {
+    let mut seen = BTreeSet::new();
+    for case in cases(1, 0) {
+        let frame = answer_in(&case.context, &case.line);
+        if let (Some(room), Ok(frame)) = (case.room, frame) {
+            seen.insert((case.line[0], room, frame.len() as i64 - room));
+        }
+    }
+    for tag in *b"ZTCRDX" {
+        let of_tag: Vec<_> = seen.iter().filter(|(of, ..)| *of == tag).collect();
+        assert!(of_tag.iter().any(|(_, room, _)| *room == 0), "{tag}");
+        for missing in [1, 0] {
+            assert!(of_tag.iter().any(|(.., less)| *less == missing), "{tag}");
+        }
+    }
+}
+
+/// A T that is refused by nothing but the number of T before it.
+#[test]
+fn the_suite_asks_too_many_transitions() {
+    let mut seen = BTreeSet::new();
+    for case in cases(1, 0) {
+        if let Before::Zone { changes } = case.context.before {
+            let fewer = zone(31, case.context.low, case.context.offset);
+            if number_of(&case) == 4 && answer_in(&fewer, &case.line).is_ok() {
+                seen.insert(changes);
+            }
+        }
+    }
+    assert_eq!(seen, BTreeSet::from([32, 33, 64, 256, 1 << 32]));
 }

@@ -7,6 +7,9 @@ use crate::zone::{LEAST_DISTANCE, MOST_TRANSITIONS, OFFSETS};
 
 pub const MOST: i64 = MOST_TRANSITIONS as i64;
 
+/// So many T that none may stand after them. The last three are 0 where the number is cut to 6, 8 or 32 bits.
+pub const TOO_MANY: [i64; 5] = [MOST, MOST + 1, 64, 256, 1 << 32];
+
 pub fn nothing() -> Context {
     Context {
         before: Before::Nothing,
@@ -37,7 +40,7 @@ pub fn lines(zone: Context) -> Context {
     }
 }
 
-/// After a Z at the ends of the offsets, after the first and the last transitions, and after other lines.
+/// After a Z at the ends of the offsets, after the first and the last transitions and too many, and after other lines.
 pub fn all() -> Vec<Context> {
     let mut all = vec![nothing()];
     all.extend([*OFFSETS.start(), 0, 60, *OFFSETS.end()].map(zone));
@@ -46,9 +49,11 @@ pub fn all() -> Vec<Context> {
         ..zone(60)
     });
     let (early, late) = (0, LAST_MINUTE);
-    all.extend([1, 2, MOST - 1, MOST].map(|changes| after(changes, early, 60)));
+    all.extend([1, 2, MOST - 1].map(|changes| after(changes, early, 60)));
+    all.extend(TOO_MANY.map(|changes| after(changes, early, 60)));
     all.push(after(1, late, 60));
     all.push(after(MOST - 1, late - LEAST_DISTANCE, 0));
+    all.extend(TOO_MANY.map(|changes| after(changes, late - LEAST_DISTANCE, 0)));
     all.push(lines(zone(60)));
     all.push(lines(after(1, early, 120)));
     all.push(lines(after(MOST, late, 0)));
@@ -70,14 +75,20 @@ pub fn any(random: &mut Random) -> Context {
     }
 }
 
-/// After a Z and 1 to 32 T.
+/// After a Z and some T.
 pub fn any_zone(random: &mut Random) -> Context {
-    let changes = match random.between(0, 3) {
-        0 => random.between(MOST - 2, MOST),
-        _ => random.between(1, MOST),
-    };
+    let changes = any_changes(random);
     let instant = random.between(0, LAST_MINUTE);
     after(changes, instant, any_offset(random))
+}
+
+/// 1 to 32 T, and at times too many.
+pub fn any_changes(random: &mut Random) -> i64 {
+    match random.between(0, 7) {
+        0 => TOO_MANY[random.between(0, TOO_MANY.len() as i64 - 1) as usize],
+        1 => random.between(MOST - 2, MOST),
+        _ => random.between(1, MOST),
+    }
 }
 
 pub fn any_offset(random: &mut Random) -> i64 {

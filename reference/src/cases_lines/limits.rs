@@ -18,6 +18,48 @@ const DIGITS: &str =
     " 0 00 000 0000 00000 1 01 001 0001 00001 2 0002 999 0999 00999 1000 01000 9999 09999 10000 \
     99999 100000 65537 4294967297 18446744073709551617";
 
+/// Times at both sides of the limits of year, month, day, hour and minute.
+const TIMES: [&str; 25] = [
+    "19991231T2359",
+    "20000101T0000",
+    "20000101T0001",
+    "20991231T2358",
+    "20991231T2359",
+    "21000101T0000",
+    "20280229T0000",
+    "20270229T0000",
+    "20000229T2359",
+    "21000229T0000",
+    "20260100T0600",
+    "20260101T0600",
+    "20260131T0600",
+    "20260132T0600",
+    "20260430T0600",
+    "20260431T0600",
+    "20260005T0600",
+    "20261305T0600",
+    "20261205T0600",
+    "20260105T2359",
+    "20260105T2400",
+    "20260105T0059",
+    "20260105T0060",
+    "99999999T9999",
+    "00000000T0000",
+];
+
+/// The places where a time stands.
+const PLACES_OF_A_TIME: [&str; 9] = [
+    "T {} +0200",
+    "D {}",
+    "X {}",
+    "R {} FREQ=DAILY",
+    "R {} FREQ=WEEKLY",
+    "R {} FREQ=MONTHLY;COUNT=2",
+    "R 20000101T0000 FREQ=DAILY;UNTIL={}",
+    "R 20000101T0000 UNTIL={};FREQ=MONTHLY",
+    "R {} UNTIL=20500101T0000;FREQ=WEEKLY",
+];
+
 pub fn all() -> Vec<Case> {
     let all = [
         dates(),
@@ -72,47 +114,9 @@ fn clocks() -> Vec<Case> {
 
 /// Times at the limits in every place where a time stands.
 fn times() -> Vec<Case> {
-    let times = [
-        "19991231T2359",
-        "20000101T0000",
-        "20000101T0001",
-        "20991231T2358",
-        "20991231T2359",
-        "21000101T0000",
-        "20280229T0000",
-        "20270229T0000",
-        "20000229T2359",
-        "21000229T0000",
-        "20260100T0600",
-        "20260101T0600",
-        "20260131T0600",
-        "20260132T0600",
-        "20260430T0600",
-        "20260431T0600",
-        "20260005T0600",
-        "20261305T0600",
-        "20261205T0600",
-        "20260105T2359",
-        "20260105T2400",
-        "20260105T0059",
-        "20260105T0060",
-        "99999999T9999",
-        "00000000T0000",
-    ];
-    let places = [
-        "T {} +0200",
-        "D {}",
-        "X {}",
-        "R {} FREQ=DAILY",
-        "R {} FREQ=WEEKLY",
-        "R {} FREQ=MONTHLY;COUNT=2",
-        "R 20000101T0000 FREQ=DAILY;UNTIL={}",
-        "R 20000101T0000 UNTIL={};FREQ=MONTHLY",
-        "R {} UNTIL=20500101T0000;FREQ=WEEKLY",
-    ];
     let mut all = Vec::new();
-    for time in times {
-        for place in places {
+    for time in TIMES {
+        for place in PLACES_OF_A_TIME {
             let line = place.replace("{}", time);
             all.push(Case::new(contexts::zone(60), line.clone()));
             all.push(Case::new(contexts::after(1, 0, 60), line));
@@ -155,7 +159,7 @@ fn changes() -> Vec<Case> {
     all
 }
 
-/// A transition at distances and with changes at both sides of their limits, after none to 32 others.
+/// A transition at distances and with changes at both sides of their limits, after none to 32 others and after far more.
 fn distances() -> Vec<Case> {
     let before = [0, 1, 13_800_960, LAST_MINUTE - LEAST_DISTANCE, LAST_MINUTE];
     let distances = [
@@ -176,8 +180,8 @@ fn distances() -> Vec<Case> {
                 let line = format!("T {} {}", written(next), offset_text(60 + change));
                 if is_local_minute(next) {
                     let after = |number| contexts::after(number, instant, 60);
-                    let contexts = [1, 2, 30, 31, 32].map(after);
-                    let contexts = contexts.into_iter().chain([contexts::zone(60)]);
+                    let numbers = [1, 2, 30, 31].into_iter().chain(contexts::TOO_MANY);
+                    let contexts = numbers.map(after).chain([contexts::zone(60)]);
                     all.extend(contexts.map(|context| Case::new(context, line.clone())));
                 }
             }

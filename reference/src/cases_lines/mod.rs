@@ -4,6 +4,7 @@ mod contexts;
 mod damage;
 mod lengths;
 mod limits;
+mod rooms;
 mod rounds;
 mod rules;
 mod well_formed;
@@ -17,14 +18,15 @@ use crate::random::Random;
 /// Rounds for `--times 1`.
 const ROUNDS: u64 = 1_500;
 
-/// The buffer is never too small for a frame's line, of which the longest has 79 bytes.
+/// Room for every frame's line, of which the longest has 79 bytes, and the most that the driver lends.
 const LEAST_ROOM: i64 = 80;
 const MOST_ROOM: i64 = 4_096;
 
-/// A line, without LF, and what stands before it.
+/// A line, without LF, and what stands before it; and the length of the buffer, any that suffices where none is said.
 pub struct Case {
     pub context: Context,
     pub line: Vec<u8>,
+    pub room: Option<i64>,
 }
 
 impl Case {
@@ -32,13 +34,17 @@ impl Case {
         Case {
             context,
             line: line.into(),
+            room: None,
         }
     }
 }
 
 pub fn requests(seed: u64, times: u64) -> Box<dyn Iterator<Item = String>> {
     let mut rooms = Random::new(!seed);
-    let asked = move |case: Case| request(&case.context, room(&mut rooms), &case.line);
+    let asked = move |case: Case| {
+        let room = case.room.unwrap_or_else(|| room(&mut rooms));
+        request(&case.context, room, &case.line)
+    };
     Box::new(cases(seed, times).map(asked))
 }
 
@@ -52,6 +58,7 @@ pub fn cases(seed: u64, times: u64) -> impl Iterator<Item = Case> {
         limits::all(),
         lengths::all(),
         ranks::all(&mut random),
+        rooms::all(),
     ];
     let rounds = times.saturating_mul(ROUNDS);
     let rounds = (0..rounds).flat_map(move |_| rounds::round(&mut random));
@@ -69,8 +76,13 @@ fn room(random: &mut Random) -> i64 {
 
 /// Every written-down line after everything that may stand before one.
 fn everywhere() -> Vec<Case> {
-    let lines = well_formed::lines().into_iter().chain(edge_lines());
+    let lines = written_down().into_iter();
     lines.flat_map(|line| after_all(&line)).collect()
+}
+
+fn written_down() -> Vec<String> {
+    let lines = well_formed::lines().into_iter();
+    lines.chain(edge_lines()).collect()
 }
 
 fn after_all(line: &str) -> Vec<Case> {

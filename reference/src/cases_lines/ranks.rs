@@ -82,7 +82,8 @@ const BYTES: usize = 10;
 /// In how many ways a line of the kind can have a fault.
 fn ways_of(tag: char, number: u64) -> usize {
     let places = |tag| match tag {
-        'Z' | 'T' => 3,
+        'Z' => 3,
+        'T' => 2 + contexts::TOO_MANY.len(),
         _ => 1,
     };
     match (number, tag) {
@@ -351,8 +352,8 @@ fn wrong_place(tag: char, way: usize) -> Context {
         ('Z', 0) => contexts::zone(60),
         ('Z', 1) => after,
         ('Z', _) => contexts::lines(after),
-        ('T', 0) => contexts::after(contexts::MOST, 0, 60),
         ('T', 1) => contexts::lines(after),
+        ('T', 2..) => contexts::after(contexts::TOO_MANY[way - 2], 0, 60),
         _ => contexts::nothing(),
     }
 }

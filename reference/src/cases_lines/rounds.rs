@@ -2,7 +2,7 @@
 
 use super::damage::damaged;
 use super::rules::mixed;
-use super::{contexts, Case};
+use super::{contexts, rooms, Case};
 use crate::answer_lines::Context;
 use crate::generate::{cron_line, edge_lines, large_set_rule_line, offset_text, rule_line};
 use crate::local::{written, LAST_MINUTE};
@@ -52,8 +52,9 @@ pub fn round(random: &mut Random) -> Vec<Case> {
         all.extend(about(&line, random));
     }
     for some_line in AS_GENERATED {
-        let line = few(some_line, random);
-        all.push(Case::new(somewhere(random), line));
+        let case = Case::new(somewhere(random), few(some_line, random));
+        all.push(rooms::any(&case, random));
+        all.push(case);
     }
     let counted = counted(random);
     all.push(Case::new(somewhere(random), counted));
@@ -108,6 +109,8 @@ fn about(line: &str, random: &mut Random) -> Vec<Case> {
         ("Z", _) => contexts::nothing(),
         _ => somewhere(random),
     };
+    let in_place = Case::new(place(random), line);
+    all.push(rooms::any(&in_place, random));
     for _ in 0..BYTES_DAMAGED {
         let line = damaged(line.as_bytes(), random);
         all.push(Case::new(place(random), line));
@@ -139,7 +142,7 @@ fn transition(random: &mut Random) -> Vec<Case> {
     };
     let change = change * (2 * random.between(0, 1) - 1);
     let line = format!("T {} {}", written(next), offset_text(offset + change));
-    let context = contexts::after(random.between(1, 32), instant, offset);
+    let context = contexts::after(contexts::any_changes(random), instant, offset);
     let mut all = about(&line, random);
     all.push(Case::new(context, line.clone()));
     all.push(Case::new(contexts::zone(offset), line.clone()));
