@@ -1,5 +1,4 @@
 -- What the proofs of count share.
-pub mod Nths
 pub mod NthBits
 pub mod NthDays
 pub mod RunBits

@@ -7,7 +7,7 @@ use Rattle.calendar.specs.Below.{leastFrom}
 use Rattle.masks.proofs.Nexts.{next-bit-at-most}
 use Rattle.masks.specs.Masks.{bit, nextBit}
 use Rattle.days.specs.Search.{nthFrom}
-use Rattle.count.proofs.Nths.{nth-one, nth-none, nth-next}
+use Rattle.days.proofs.Nths.{nth-one, nth-none, nth-next}
 
 module _ (m n : ℕ) (h : n ≤ 64) where
   least : nextBit m n ≡ leastFrom (bit m) (64 - n) n

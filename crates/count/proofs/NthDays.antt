@@ -13,7 +13,7 @@ use Rattle.masks.proofs.Counts.{count-parts}
 use Rattle.masks.specs.Masks.{bit, bitsFrom}
 use Rattle.days.specs.Search.{nthFrom, nthDay}
 use Rattle.count.specs.Sets.{HeldSet}
-use Rattle.count.proofs.Nths.{nth-zero, nth-past, nth-within, count-none, count-along, nth-along}
+use Rattle.days.proofs.Nths.{nth-zero, nth-past, nth-within, count-none, count-along, nth-along}
 
 module _ (l : List ℕ) where
   pub nth-day-zero : (low : ℕ) → max 36525 low ≡ nthDay l 0 low

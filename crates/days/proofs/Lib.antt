@@ -4,3 +4,4 @@ pub mod Walks
 pub mod Readied
 pub mod Intervals
 pub mod Answers
+pub mod Nths

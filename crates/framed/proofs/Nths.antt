@@ -1,45 +1,16 @@
--- The c-th of the numbers that pass a test, and how many pass up to one of them.
-use mathlib.Core.Bool.{Bool, true, false, cond}
+-- The c-th of the numbers that pass a test, by how many pass up to one of them.
+use mathlib.Core.Bool.{Bool, true, cond}
 use mathlib.Core.Path.{_≡_, refl, ap, _∙_}
 use Prim.Native.Nat.{ℕ, zero, suc, _+_, _-_, _<_, _≤_}
 use native.Mathlib.Omega.{arith}
-use borrow.Author.Tests.{eq-eqb, ne-eqb, eqb-true, eqb-false}
-use lib.Dec.{eqb}
 use Rattle.calendar.specs.Below.{countFrom}
+use Rattle.days.proofs.Nths.{nth-here, nth-on, nth-later, by-first, nth-lies}
 use Rattle.days.specs.Search.{nthFrom}
-use Rattle.masks.proofs.Bits.{decided}
 use Rattle.masks.proofs.MaskFroms.{digit-at-most}
 use Rattle.zone.proofs.Good.{by-order}
 use Rattle.framed.proofs.Counted.{one-counted}
 
 module _ (test : ℕ → Bool) where
-  module _ (c k i : ℕ) where
-    nth-here : test i ≡ true → c ≡ 1 → nthFrom test c (suc k) i ≡ i
-    unfolding nthFrom
-    nth-here t e = rw (t, nthFrom) (rw (eq-eqb c 1 e, nthFrom) refl)
-
-    nth-next : test i ≡ true → (c ≡ 1 → ⊥) → nthFrom test c (suc k) i ≡ nthFrom test (c - 1) k (suc i)
-    unfolding nthFrom
-    nth-next t n = rw (t, nthFrom) (rw (ne-eqb c 1 n, nthFrom) refl)
-
-    nth-later : test i ≡ false → nthFrom test c (suc k) i ≡ nthFrom test c k (suc i)
-    unfolding nthFrom
-    nth-later f = rw (f, nthFrom) refl
-
-  -- one of the numbers, by what is first of them
-  by-first : {A : Type 0} (c i : ℕ) → (test i ≡ true → c ≡ 1 → A) → (test i ≡ true → (c ≡ 1 → ⊥) → A) → (test i ≡ false → A) → A
-  by-first c i here next later =
-      decided (test i)
-      (λ (t : test i ≡ true). decided (eqb c 1) (λ (e : eqb c 1 ≡ true). here t (eqb-true c 1 e)) (λ (n : eqb c 1 ≡ false). next t (eqb-false c 1 n)))
-      later
-
-  nth-from : (c k i : ℕ) → i ≤ nthFrom test c k i
-  unfolding nthFrom
-  nth-from c zero i = omega arith
-  nth-from c (suc k) i =
-      by-first c i (λ t e. omega (arith, nth-here c k i t e)) (λ t n. omega (arith, nth-next c k i t n, nth-from (c - 1) k (suc i)))
-      (λ f. omega (arith, nth-later c k i f, nth-from c k (suc i)))
-
   -- d is at most the c-th exactly if no more than c pass up to d
   pub record Counted (c k i d : ℕ) : Type 0 where
     pub upto : d ≤ nthFrom test c k i → countFrom test (d + 1 - i) i ≤ c
@@ -59,28 +30,28 @@ module _ (test : ℕ → Bool) where
       same b =
           let e : d - i ≡ 0 = omega arith in
           let n : countFrom test (d - i) (suc i) ≡ 0 = ap (λ (x : ℕ). countFrom test x (suc i)) e in
-          record { upto = λ q. omega (arith, first, n, digit-at-most (test i)); past = λ q. absurd (omega (arith, nth-from c (suc k) i)) }
+          record { upto = λ q. omega (arith, first, n, digit-at-most (test i)); past = λ q. absurd (omega (arith, nth-lies test c (suc k) i .0)) }
 
       later : i < d → ((a : ℕ) → 1 ≤ a → Counted a k (suc i) d) → Counted c (suc k) i d
       later b rest =
-          by-first c i
+          by-first test c i
           (λ t₁ e.
           let a : countFrom test (d + 1 - i) i ≡ 1 + countFrom test (d - i) (suc i) = first ∙ rw t₁ refl in
           record {
-            upto = λ q. absurd (omega (arith, nth-here c k i t₁ e));
+            upto = λ q. absurd (omega (arith, nth-here test c k i t₁ e));
             past = λ q. omega (arith, a, one-counted test (d - i) (suc i) d (omega arith) (omega arith) t);
           })
           (λ t₁ n.
           let a : countFrom test (d + 1 - i) i ≡ 1 + countFrom test (d - i) (suc i) = first ∙ rw t₁ refl in
           let r = rest (c - 1) (omega arith) in
           record {
-            upto = λ q. omega (arith, a, moved, r .upto (omega (arith, nth-next c k i t₁ n)));
-            past = λ q. omega (arith, a, moved, r .past (omega (arith, nth-next c k i t₁ n)));
+            upto = λ q. omega (arith, a, moved, r .upto (omega (arith, nth-on test c k i t₁ n)));
+            past = λ q. omega (arith, a, moved, r .past (omega (arith, nth-on test c k i t₁ n)));
           })
           (λ f.
           let a : countFrom test (d + 1 - i) i ≡ 0 + countFrom test (d - i) (suc i) = first ∙ rw f refl in
           let r = rest c p in
           record {
-            upto = λ q. omega (arith, a, moved, r .upto (omega (arith, nth-later c k i f)));
-            past = λ q. omega (arith, a, moved, r .past (omega (arith, nth-later c k i f)));
+            upto = λ q. omega (arith, a, moved, r .upto (omega (arith, nth-later test c k i f)));
+            past = λ q. omega (arith, a, moved, r .past (omega (arith, nth-later test c k i f)));
           })

@@ -1,5 +1,5 @@
 -- *Last* by the days of a rule.
-use mathlib.Core.Bool.{Bool, cond}
+use mathlib.Core.Bool.{cond}
 use mathlib.Core.Path.{_≡_, sym, ap, _∙_}
 use Prim.Native.Nat.{ℕ, _+_, _-_, _*_, _/_, _%_, _<_, _≤_}
 use native.Mathlib.Omega.{arith}
@@ -7,8 +7,8 @@ use borrow.Author.Tests.{le-ltb}
 use lib.Dec.{ltb}
 use Rattle.calendar.proofs.Windows.{local-date-holds, month-days-range}
 use Rattle.calendar.specs.Window.{localDate, dayMinutes, windowDays, windowLast}
-use Rattle.count.proofs.Nths.{nth-along}
-use Rattle.days.specs.Search.{nthFrom, nthDay}
+use Rattle.days.proofs.Nths.{nth-same}
+use Rattle.days.specs.Search.{nthDay}
 use Rattle.frames.specs.Numbers.{dayHeld}
 use Rattle.frames.specs.Rule.{ruleDay}
 use Rattle.frames.specs.declared.Rule.{Rule}
@@ -30,10 +30,6 @@ day-fits n =
     let a = local-date-holds n h in
     omega (arith, a .high, month-days-range (localDate n .month) (a .last) .1))
     (day-past n)
-
--- the c-th that passes is the same of two tests that agree
-pub nth-same : (test other : ℕ → Bool) (c k i : ℕ) → ((j : ℕ) → i ≤ j → j < i + k → test j ≡ other j) → nthFrom test c k i ≡ nthFrom other c k i
-nth-same test other c k i e = let a = nth-along test other c k i i (λ x h. e (i + x) (omega arith) (omega arith)) in omega (arith, a)
 
 -- *last* by the day that the search over the frame's row finds
 pub count-last-by : (f : Rule) (c d : ℕ) → d ≡ nthDay (rowOf (Frame.Rule f)) c (f .start / dayMinutes)

@@ -10,7 +10,7 @@ use Rattle.frames.proofs.MonthDays.{first-at-most, days-at-most}
 use Rattle.frames.specs.Months.{dayOf, InMonth}
 use Rattle.masks.specs.Masks.{bit}
 use Rattle.days.specs.Search.{nthDay}
-use Rattle.count.proofs.Nths.{nth-lies}
+use Rattle.days.proofs.Nths.{nth-lies}
 use Rattle.count.proofs.NthDays.{day-below, nth-day-past, nth-day-here, nth-day-on}
 use Rattle.count.proofs.nth_from.Statement.{statement}
 use Rattle.count.proofs.nth_from.Tie as tie

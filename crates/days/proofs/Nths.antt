@@ -1,16 +1,35 @@
--- The c-th of the numbers that pass a test: by the least of them again and again, by the count of a part, and along another range.
+-- The c-th of the numbers that pass a test: by the first of them, by the least again and again, by the count of a part, and along another range.
 use mathlib.Core.Bool.{Bool, true, false, cond}
 use mathlib.Core.Path.{_≡_, refl, sym, ap, ap₂, _∙_}
-use mathlib.Core.Logic.{dite}
 use Prim.Native.Nat.{ℕ, zero, suc, _+_, _-_, _<_, _≤_}
-use native.Mathlib.Decide.{ℕ-discrete}
 use native.Mathlib.Omega.{arith}
-use borrow.Author.Tests.{eq-eqb, ne-eqb}
+use borrow.Author.Tests.{eq-eqb, ne-eqb, eqb-true, eqb-false}
+use lib.Dec.{eqb}
 use Rattle.calendar.specs.Below.{countFrom, leastFrom}
 use Rattle.masks.proofs.Bits.{decided}
 use Rattle.days.specs.Search.{nthFrom}
 
 module _ (test : ℕ → Bool) where
+  -- the first of the numbers is the c-th, or is passed and counted, or is passed
+  module _ (c k i : ℕ) where
+    pub nth-here : test i ≡ true → c ≡ 1 → nthFrom test c (suc k) i ≡ i
+    unfolding nthFrom
+    nth-here t e = rw (t, nthFrom) (rw (eq-eqb c 1 e, nthFrom) refl)
+
+    pub nth-on : test i ≡ true → (c ≡ 1 → ⊥) → nthFrom test c (suc k) i ≡ nthFrom test (c - 1) k (suc i)
+    unfolding nthFrom
+    nth-on t n = rw (t, nthFrom) (rw (ne-eqb c 1 n, nthFrom) refl)
+
+    pub nth-later : test i ≡ false → nthFrom test c (suc k) i ≡ nthFrom test c k (suc i)
+    unfolding nthFrom
+    nth-later f = rw (f, nthFrom) refl
+
+  pub by-first : {A : Type 0} (c i : ℕ) → (test i ≡ true → c ≡ 1 → A) → (test i ≡ true → (c ≡ 1 → ⊥) → A) → (test i ≡ false → A) → A
+  by-first c i here on later =
+      decided (test i)
+      (λ (t : test i ≡ true). decided (eqb c 1) (λ (e : eqb c 1 ≡ true). here t (eqb-true c 1 e)) (λ (n : eqb c 1 ≡ false). on t (eqb-false c 1 n)))
+      later
+
   pub nth-zero : (k i : ℕ) → nthFrom test 0 k i ≡ i + k
   unfolding nthFrom
   nth-zero zero i = omega arith
@@ -24,13 +43,9 @@ module _ (test : ℕ → Bool) where
   unfolding nthFrom
   nth-lies c zero i = (omega arith, omega arith)
   nth-lies c (suc k) i =
-      let later : (d : ℕ) → (i ≤ nthFrom test d k (suc i)) × (nthFrom test d k (suc i) ≤ i + suc k) =
-      λ d. let a = nth-lies d k (suc i) in (omega (arith, a .0), omega (arith, a .1)) in
-      decided (test i)
-      (λ (t : test i ≡ true).
-      dite (ℕ-discrete c 1) (λ (o : c ≡ 1). rw (t, nthFrom) (rw (eq-eqb c 1 o, nthFrom) (omega arith, omega arith)))
-      (λ (o : c ≡ 1 → ⊥). rw (t, nthFrom) (rw (ne-eqb c 1 o, nthFrom) (later (c - 1)))))
-      (λ (f : test i ≡ false). rw (f, nthFrom) (later c))
+      by-first c i (λ t e. let s = nth-here c k i t e in (omega (arith, s), omega (arith, s)))
+      (λ t n. let s = nth-on c k i t n in let a = nth-lies (c - 1) k (suc i) in (omega (arith, s, a .0), omega (arith, s, a .1)))
+      (λ f. let s = nth-later c k i f in let a = nth-lies c k (suc i) in (omega (arith, s, a .0), omega (arith, s, a .1)))
 
   pub nth-one : (k i : ℕ) → nthFrom test 1 k i ≡ leastFrom test k i
   unfolding nthFrom leastFrom
@@ -94,14 +109,13 @@ module _ (test : ℕ → Bool) where
   nth-within c (suc j) k i l h =
       let e : suc j + k ≡ suc (j + k) = omega arith in
       rw e
-      (decided (test i)
-      (λ (t : test i ≡ true).
+      (by-first c i (λ t o. nth-here c (j + k) i t o ∙ sym (nth-here c j i t o))
+      (λ t o.
       let g : c ≤ 1 + countFrom test j (suc i) = rw t at h in
-      dite (ℕ-discrete c 1) (λ (o : c ≡ 1). rw (t, nthFrom) (rw (eq-eqb c 1 o, nthFrom)))
-      (λ (o : c ≡ 1 → ⊥). rw (t, nthFrom) (rw (ne-eqb c 1 o, nthFrom) (nth-within (c - 1) j k (suc i) (omega arith) (omega arith)))))
-      (λ (f : test i ≡ false).
+      nth-on c (j + k) i t o ∙ nth-within (c - 1) j k (suc i) (omega arith) (omega arith) ∙ sym (nth-on c j i t o))
+      (λ f.
       let g : c ≤ 0 + countFrom test j (suc i) = rw f at h in
-      rw (f, nthFrom) (nth-within c j k (suc i) l (omega arith))))
+      nth-later c (j + k) i f ∙ nth-within c j k (suc i) l (omega arith) ∙ sym (nth-later c j i f)))
 
   -- of none there is no count
   pub count-none : (k i : ℕ) → ((j : ℕ) → i ≤ j → test j ≡ false) → countFrom test k i ≡ 0
@@ -131,13 +145,12 @@ module _ (test other : ℕ → Bool) where
   unfolding nthFrom
   nth-along c zero i j e = omega arith
   nth-along c (suc k) i j e =
-      let rest : (d : ℕ) → nthFrom test d k (suc i) + j ≡ nthFrom other d k (suc j) + i =
-      λ d. let a = nth-along d k (suc i) (suc j) (next-agrees k i j e) in omega (arith, a) in
-      decided (test i)
-      (λ (t : test i ≡ true).
-      let o : other j ≡ true = sym (first-agrees k i j e) ∙ t in
-      dite (ℕ-discrete c 1) (λ (n : c ≡ 1). rw (t, o, nthFrom) (rw (eq-eqb c 1 n, nthFrom) (omega arith)))
-      (λ (n : c ≡ 1 → ⊥). rw (t, o, nthFrom) (rw (ne-eqb c 1 n, nthFrom) (rest (c - 1)))))
-      (λ (f : test i ≡ false).
-      let o : other j ≡ false = sym (first-agrees k i j e) ∙ f in
-      rw (f, o, nthFrom) (rest c))
+      let o = first-agrees k i j e in
+      let rest : (d : ℕ) → nthFrom test d k (suc i) + suc j ≡ nthFrom other d k (suc j) + suc i = λ d. nth-along d k (suc i) (suc j) (next-agrees k i j e) in
+      by-first test c i (λ t n. omega (arith, nth-here test c k i t n, nth-here other c k j (sym o ∙ t) n))
+      (λ t n. omega (arith, rest (c - 1), nth-on test c k i t n, nth-on other c k j (sym o ∙ t) n))
+      (λ f. omega (arith, rest c, nth-later test c k i f, nth-later other c k j (sym o ∙ f)))
+
+  -- within one range it is the same
+  pub nth-same : (c k i : ℕ) → ((j : ℕ) → i ≤ j → j < i + k → test j ≡ other j) → nthFrom test c k i ≡ nthFrom other c k i
+  nth-same c k i e = omega (arith, nth-along c k i i (λ x h. e (i + x) (omega arith) (omega arith)))
