@@ -1,11 +1,12 @@
--- A test that antt computes for every number below a limit, as a rule at each of them.
-use mathlib.Core.Bool.{Bool, true, false, _&&_, false≢true}
+-- Tests joined and compared; and a test that antt computes for every number below a limit, as a rule at each of them.
+use mathlib.Core.Bool.{Bool, true, false, _&&_, _||_, false≢true}
 use mathlib.Core.Logic.{dite}
-use mathlib.Core.Path.{_≡_, refl, subst}
+use mathlib.Core.Path.{_≡_, refl, sym, subst, _∙_}
 use Prim.Native.Nat.{ℕ, zero, suc, _<_}
-use native.Mathlib.Decide.{decLt}
+use native.Mathlib.Decide.{decLt, ℕ-discrete}
 use native.Mathlib.Omega.{arith}
-use lib.Dec.{T}
+use borrow.Author.Tests.{ne-eqb}
+use lib.Dec.{T, eqb}
 use Rattle.calendar.specs.Below.{everyBelow}
 
 pub left : (a b : Bool) → T (a && b) → T a
@@ -20,6 +21,19 @@ right false b t = absurd t
 pub both-true : (a b : Bool) → (a && b) ≡ true → (a ≡ true) × (b ≡ true)
 both-true true b e = (refl, e)
 both-true false b e = absurd (false≢true e)
+
+-- the order of a test does not matter, nor that of four
+pub same-either-way : (a b : ℕ) → eqb a b ≡ eqb b a
+same-either-way a b =
+    dite (ℕ-discrete a b) (λ (e : a ≡ b). rw e)
+    (λ (n : a ≡ b → ⊥). ne-eqb a b n ∙ sym (ne-eqb b a (λ (e : b ≡ a). n (sym e))))
+
+pub regrouped : (a b c d : Bool) → (a || b || (c || d)) ≡ (a || c || (b || d))
+regrouped true b c d = refl
+regrouped false true true d = refl
+regrouped false true false d = refl
+regrouped false false true d = refl
+regrouped false false false d = refl
 
 pub every : (f : ℕ → Bool) (n : ℕ) → T (everyBelow f n) → (k : ℕ) → k < n → T (f k)
 every f zero t k h = absurd (omega arith)

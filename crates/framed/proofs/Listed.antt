@@ -2,7 +2,7 @@
 use mathlib.Core.Bool.{Bool, true, false, _&&_, _||_}
 use mathlib.Core.List.{List, [], _∷_}
 use mathlib.Core.Path.{_≡_, refl, ap₂, _∙_}
-use Rattle.calendar.proofs.Every.{both-true}
+use Rattle.calendar.proofs.Every.{both-true, regrouped}
 use Rattle.calendar.specs.Below.{anyOf, allOf}
 
 abbrev pub anything : {A : Type 0} → A → Bool
@@ -13,18 +13,11 @@ abbrev pub listed : {A : Type 0} → (A → Bool) → List A → Bool
 listed test [] = false
 listed test (x ∷ xs) = test x && allOf test xs
 
-swapped : (a b c d : Bool) → (a || b || (c || d)) ≡ (a || c || (b || d))
-swapped true b c d = refl
-swapped false true true d = refl
-swapped false true false d = refl
-swapped false false true d = refl
-swapped false false false d = refl
-
 -- some element passes one test, or some the other
 module _ {A : Type 0} (one other both : A → Bool) (same : (x : A) → (one x || other x) ≡ both x) where
   pub any-either : (xs : List A) → (anyOf one xs || anyOf other xs) ≡ anyOf both xs
   any-either [] = refl
-  any-either (x ∷ xs) = swapped (one x) (anyOf one xs) (other x) (anyOf other xs) ∙ ap₂ _||_ (same x) (any-either xs)
+  any-either (x ∷ xs) = regrouped (one x) (anyOf one xs) (other x) (anyOf other xs) ∙ ap₂ _||_ (same x) (any-either xs)
 
 -- what a list's elements pass, and what all of them pass
 module _ {A : Type 0} (one other both : A → Bool) (join : (x : A) → one x ≡ true → other x ≡ true → both x ≡ true) where

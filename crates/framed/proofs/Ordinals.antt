@@ -5,9 +5,9 @@ use mathlib.Core.Path.{_≡_, refl, sym, ap, ap₂, _∙_}
 use Prim.Native.Nat.{ℕ, zero, suc, _+_, _-_, _*_, _^_, _<_, _≤_}
 use native.Mathlib.Nat.{zero-div}
 use native.Mathlib.Omega.{arith}
-use borrow.Author.Tests.{eq-eqb, ne-eqb, eqb-true, eqb-false, leb-true, ltb-true}
+use borrow.Author.Tests.{eq-eqb, eqb-true, leb-true, ltb-true}
 use lib.Dec.{leb, ltb, eqb}
-use Rattle.calendar.proofs.Every.{both-true}
+use Rattle.calendar.proofs.Every.{both-true, same-either-way}
 use Rattle.calendar.specs.Below.{within, anyOf, allOf}
 use Rattle.calendar.specs.Window.{localWeekday, localDate, fromEnd, windowDays}
 use Rattle.frames.proofs.MonthDays.{weekday-at-most}
@@ -67,11 +67,6 @@ ordinal-bit minus es k w l h b =
 pub plain-bit : (es : List Entry) (w : ℕ) → w < 7 → bit (maskFrom (λ v. anyOf (isPlain v) es) 7 0) w ≡ anyOf (isPlain w) es
 plain-bit es w b = bit-in-mask (λ v. anyOf (isPlain v) es) 7 0 w (omega arith) b
 
-eqb-sym : (a b : ℕ) → eqb a b ≡ eqb b a
-eqb-sym a b =
-    decided (eqb b a) (λ (t : eqb b a ≡ true). eq-eqb a b (sym (eqb-true b a t)) ∙ sym t)
-    (λ (f : eqb b a ≡ false). ne-eqb a b (λ (e : a ≡ b). eqb-false b a f (sym e)) ∙ sym f)
-
 -- an entry of the list by its masks
 module _ (d : ℕ) (h : d < windowDays) where
   abbrev placed : Bool → ℕ
@@ -83,14 +78,14 @@ module _ (d : ℕ) (h : d < windowDays) where
 
   entry-is : (e : Entry) → (isPlain (localWeekday d) e || (isOrdinal false (placed false) (localWeekday d) e || isOrdinal true (placed true) (localWeekday d) e)) ≡ entryHas d e
   unfolding entryHas
-  entry-is (plain w) = or-false (eqb w (localWeekday d)) ∙ eqb-sym w (localWeekday d)
+  entry-is (plain w) = or-false (eqb w (localWeekday d)) ∙ same-either-way w (localWeekday d)
   entry-is (ordinal n w) =
       decided (eqb (localWeekday d) w)
       (λ (t : eqb (localWeekday d) w ≡ true).
       let e = eqb-true (localWeekday d) w t in
-      rw (t, eqb-sym w (localWeekday d) ∙ t)
+      rw (t, same-either-way w (localWeekday d) ∙ t)
       (either-sign (n .minus) (n .number) ∙ ap (eqb (n .number)) (sym (ordinal-counted (n .minus) d w h e))))
-      (λ (f : eqb (localWeekday d) w ≡ false). rw (f, eqb-sym w (localWeekday d) ∙ f) refl)
+      (λ (f : eqb (localWeekday d) w ≡ false). rw (f, same-either-way w (localWeekday d) ∙ f) refl)
 
   pub entries-hold : (es : List Entry)
       → (bit (maskFrom (λ w. anyOf (isPlain w) es) 7 0) (localWeekday d) || ordinalAllowed (ordinalEnds es) (localDate d .day) (fromEnd d) (localWeekday d)) ≡ anyOf (entryHas d) es

@@ -8,7 +8,7 @@ use native.Mathlib.Omega.{arith}
 use borrow.Author.Tests.{lt-ltb, le-ltb, le-leb, lt-leb, eq-eqb, ne-eqb, eqb-true, eqb-false}
 use lib.Dec.{T, leb, ltb, eqb}
 use lib.Pow.{shl-exact}
-use Rattle.calendar.proofs.Every.{every}
+use Rattle.calendar.proofs.Every.{regrouped, every}
 use Rattle.calendar.specs.Below.{everyBelow}
 use Rattle.masks.proofs.Bits.{decided, bit-above, bit-of-quotient, bit-of-rest, bit-of-multiple}
 use Rattle.masks.specs.Masks.{bit}
@@ -78,13 +78,6 @@ one-more a x n =
     dite (decLt n x)
     (λ (l : n < x). rw (le-ltb x n (omega arith), le-ltb x (n + 1) (omega arith), ne-eqb x n (omega arith)) refl)
     (λ (f : n < x → ⊥). let e : x ≡ n = omega arith in rw (e, le-ltb n n (omega arith), lt-ltb n (n + 1) (omega arith), eq-eqb n n refl) refl))
-
-regrouped : (p q r s : Bool) → (p || q || (r || s)) ≡ (p || r || (q || s))
-regrouped true q r s = refl
-regrouped false true true s = refl
-regrouped false true false s = refl
-regrouped false false true s = refl
-regrouped false false false s = refl
 
 -- the days of the ordinals up to n
 module _ (e : Ends) (first len d : ℕ) where

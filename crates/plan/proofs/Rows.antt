@@ -1,12 +1,9 @@
 -- A frame's row says what the frame says: the search over rows is a search over the plan.
 use mathlib.Core.Bool.{not, _&&_}
 use mathlib.Core.List.{List, [], _∷_, map}
-use mathlib.Core.Logic.{dite}
-use mathlib.Core.Path.{_≡_, refl, sym, _∙_}
+use mathlib.Core.Path.{_≡_, refl}
 use Prim.Native.Nat.{ℕ}
-use native.Mathlib.Decide.{ℕ-discrete}
-use borrow.Author.Tests.{ne-eqb}
-use lib.Dec.{eqb}
+use Rattle.calendar.proofs.Every.{same-either-way}
 use Rattle.calendar.specs.Below.{anyOf}
 use Rattle.held.specs.Lists.{anyHeld, anyExcepts, listHeld, frameExcepts as rowExcepts}
 use Rattle.held.specs.Minutes.{frameHeld}
@@ -25,12 +22,6 @@ cron-row-back f = refl
 pub rule-row-back : (f : Rule) → ruleOf (rowOf (Frame.Rule f)) ≡ f
 unfolding rowOf
 rule-row-back f = refl
-
--- the order of a test does not matter
-same-either-way : (a b : ℕ) → eqb a b ≡ eqb b a
-same-either-way a b =
-    dite (ℕ-discrete a b) (λ (e : a ≡ b). rw e)
-    (λ (n : a ≡ b → ⊥). ne-eqb a b n ∙ sym (ne-eqb b a (λ (e : b ≡ a). n (sym e))))
 
 pub row-held : (f : Frame) (m : ℕ) → frameHeld (rowOf f) m ≡ frameHolds m f
 unfolding rowOf frameHeld frameHolds
