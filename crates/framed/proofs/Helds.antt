@@ -14,7 +14,7 @@ use Rattle.days.specs.Search.{nthFrom}
 use Rattle.frames.specs.Rule.{ruleHeld}
 use Rattle.masks.proofs.Bits.{decided}
 use Rattle.sheet.specs.Form.{Time, Part, Frequency, daily, rule}
-use Rattle.sheet.specs.Meaning.{occursOn, occursAt, ruleHolds}
+use Rattle.sheet.specs.Meaning.{occursOn, occursAt, withinCount, withinUntil, ruleHolds}
 use Rattle.sheet.specs.Parts.{Given, givenOf, isGiven, givenTwice, partsTogether}
 use Rattle.sheet.specs.Range.{minuteOf, inRange}
 use Rattle.sheet.specs.Refusals.{together}
@@ -23,15 +23,6 @@ use Rattle.framed.specs.Framed.{lastOf, ruleFrame}
 use Rattle.framed.proofs.Days.{rule-occurs}
 use Rattle.framed.proofs.Goods.{givenPasses, written, rule-good}
 use Rattle.framed.proofs.Nths.{nth-counted}
-
--- what COUNT and UNTIL keep, by the parts alone
-abbrev untilKeeps : Option Time → ℕ → Bool
-untilKeeps none m = true
-untilKeeps (some t) m = leb m (minuteOf t)
-
-abbrev countKeeps : Option ℕ → (ℕ → Bool) → Bool
-countKeeps none test = true
-countKeeps (some c) test = test c
 
 abbrev lastFor : (ℕ → Bool) → ℕ → Option Time → Option ℕ → ℕ
 lastFor test start until count =
@@ -65,7 +56,7 @@ module _ (test : ℕ → Bool) (start m : ℕ) (h : m < windowMinutes) (from : s
       (λ l. rw (le-ltb n windowDays l) (le-leb m windowLast (omega arith) ∙ sym (le-leb _ c (a .upto (omega arith)))))
 
   last-keeps : (until : Option Time) (count : Option ℕ) → (isGiven count && isGiven until) ≡ false → givenPasses (leb 1) count ≡ true
-      → leb m (lastFor test start until count) ≡ (untilKeeps until m && countKeeps count upto)
+      → leb m (lastFor test start until count) ≡ (withinUntil until m && withinCount count upto)
   last-keeps none none e p = le-leb m windowLast (omega arith)
   last-keeps none (some c) e p = count-keeps c (leb-true 1 c p)
   last-keeps (some t) none e p = sym (and-true (leb m (minuteOf t)))
@@ -92,7 +83,7 @@ occurs g start m t =
 
 module _ (g : Given) (start m : ℕ) where
   holds-where : occursAt g start m ≡ true
-      → ruleHolds g start m ≡ (untilKeeps (g .until) m && countKeeps (g .count) (λ c. leb (countFrom (occursOn (frequencyIn g) g (start / dayMinutes)) (m / dayMinutes + 1 - start / dayMinutes) (start / dayMinutes)) c))
+      → ruleHolds g start m ≡ (withinUntil (g .until) m && withinCount (g .count) (λ c. leb (countFrom (occursOn (frequencyIn g) g (start / dayMinutes)) (m / dayMinutes + 1 - start / dayMinutes) (start / dayMinutes)) c))
   unfolding ruleHolds
   holds-where t = rw (t, ruleHolds) refl
 

@@ -22,7 +22,7 @@ use Rattle.parts.specs.Given.{countFrom, untilFrom, partsGiven}
 use Rattle.parts.specs.declared.given.Parts.{Parts}
 use Rattle.sheet.proofs.Times.{minute-in-window}
 use Rattle.sheet.specs.Form.{Time, daily, Part, freq, interval, count, until, byDay, byMonthDay, bySetPos, rule}
-use Rattle.sheet.specs.Meaning.{occursOn, occursAt}
+use Rattle.sheet.specs.Meaning.{occursOn, occursAt, withinUntil}
 use Rattle.sheet.specs.Parts.{Given, givenOf, partsTogether}
 use Rattle.sheet.specs.Range.{timeInRange, minuteOf, partInRange, inRange}
 use Rattle.sheet.specs.Refusals.{startOccurs}
@@ -47,11 +47,7 @@ unfolding givenOf
 until-in-range [] r = refl
 until-in-range (p ∷ ps) r = let a = both-true (partInRange p) (allOf partInRange ps) r in until-with p ps (a .0) (until-in-range ps (a .1))
 
-abbrev notBefore : Option Time → ℕ → Bool
-notBefore none m = true
-notBefore (some t) m = leb m (minuteOf t)
-
-until-after : (o : Option Time) (m : ℕ) → givenPasses timeInRange o ≡ true → cond (untilFrom o .given) (leb m (untilFrom o .number)) true ≡ notBefore o m
+until-after : (o : Option Time) (m : ℕ) → givenPasses timeInRange o ≡ true → cond (untilFrom o .given) (leb m (untilFrom o .number)) true ≡ withinUntil o m
 until-after none m e = refl
 until-after (some t) m e = rw e refl
 

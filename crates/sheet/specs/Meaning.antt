@@ -107,17 +107,16 @@ occursOn f g first d =
 unfoldable pub occursAt : Given → ℕ → ℕ → Bool
 occursAt g start m = occursOn (Option·getD (g .frequency) daily) g (start / dayMinutes) (m / dayMinutes) && eqb (m % dayMinutes) (start % dayMinutes)
 
-withinCount : Option ℕ → (ℕ → Bool) → Bool
+abbrev pub withinCount : Option ℕ → (ℕ → Bool) → Bool
 withinCount none test = true
 withinCount (some c) test = test c
 
-withinUntil : Option Time → ℕ → Bool
+abbrev pub withinUntil : Option Time → ℕ → Bool
 withinUntil none m = true
 withinUntil (some t) m = leb m (minuteOf t)
 
 -- "Then COUNT keeps the first so many; UNTIL keeps those not later than it."
 unfoldable pub ruleHolds : Given → ℕ → ℕ → Bool
-unfolding withinCount withinUntil
 ruleHolds g start m =
     let f = Option·getD (g .frequency) daily in
     let first = start / dayMinutes in

@@ -8,8 +8,8 @@ use lib.ListN.{length}
 use Rattle.calendar.specs.Below.{within, allOf}
 use Rattle.lines.specs.Lines.{linesOf}
 use Rattle.zone.specs.Zone.{underLimits, distance}
-use Rattle.sheet.specs.Form.{Time, Form, zone, change, cron, rule, extra, except, formOf}
-use Rattle.sheet.specs.Meaning.{occursAt}
+use Rattle.sheet.specs.Form.{Form, zone, change, cron, rule, extra, except, formOf}
+use Rattle.sheet.specs.Meaning.{occursAt, withinUntil}
 use Rattle.sheet.specs.Parts.{givenOf, partsTogether}
 use Rattle.sheet.specs.Place.{Before, start, lines, after, inPlace}
 use Rattle.sheet.specs.Range.{minuteOf, instantOfTime, offsetOfShift, inRange}
@@ -50,19 +50,14 @@ limitsKept c (rule t ps) = true
 limitsKept c (extra t) = true
 limitsKept c (except t) = true
 
-notBefore : Option Time → ℕ → Bool
-notBefore none m = true
-notBefore (some t) m = leb m (minuteOf t)
-
 -- 8: "start not an occurrence of its rule (COUNT and UNTIL left out), or UNTIL before start"
 unfoldable pub startOccurs : Form → Bool
-unfolding notBefore
 startOccurs (zone s) = true
 startOccurs (change t s) = true
 startOccurs (cron m h d mo w) = true
 startOccurs (rule t ps) =
     let g = givenOf ps in
-    occursAt g (minuteOf t) (minuteOf t) && notBefore (g .until) (minuteOf t)
+    occursAt g (minuteOf t) (minuteOf t) && withinUntil (g .until) (minuteOf t)
 startOccurs (extra t) = true
 startOccurs (except t) = true
 
