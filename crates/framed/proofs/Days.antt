@@ -7,7 +7,7 @@ use Prim.Native.Nat.{ℕ, _-_, _/_, _%_, _<_}
 use native.Mathlib.Omega.{arith}
 use lib.Dec.{leb, eqb}
 use Rattle.calendar.specs.Window.{dayMinutes, windowDays, windowMinutes}
-use Rattle.frames.specs.Rule.{noLimit, monthDayAllowed, weekdayAllowed, inSet, placed, period, counts, ruleDay, ruleOccurs}
+use Rattle.frames.specs.Rule.{noLimit, inSet, placed, period, counts, ruleDay, ruleOccurs}
 use Rattle.frames.specs.declared.Ends.{Ends}
 use Rattle.frames.specs.declared.Rule.{Rule}
 use Rattle.masks.proofs.Bits.{decided}
@@ -70,24 +70,6 @@ module _ (f : Frequency) (g : Given) (first : ℕ) (r : Rule) (a : Framed f g fi
     unfolding ruleDay occursOn
     day-is =
         ap₂ _&&_ (ap (λ (x : ℕ). leb x d) (a .start)) (ap₂ _&&_ (counts-is d) set-placed)
-
--- *last* is not read
-abbrev pub withLast : ℕ → Rule → Rule
-withLast l r =
-    record {
-      frequency = r .frequency;
-      interval = r .interval;
-      start = r .start;
-      last = l;
-      weekdays = r .weekdays;
-      days = r .days;
-      ordinals = r .ordinals;
-      positions = r .positions;
-    }
-
-pub day-with-last : (l : ℕ) (r : Rule) (d : ℕ) → ruleDay (withLast l r) d ≡ ruleDay r d
-unfolding ruleDay counts period inSet monthDayAllowed weekdayAllowed placed
-day-with-last l r d = refl
 
 pub frame-framed : (g : Given) (start : ℕ) → Framed (Option·getD (g .frequency) daily) g (start / dayMinutes) (ruleFrame g start)
 unfolding ruleFrame

@@ -8,7 +8,6 @@ use borrow.Author.Tests.{not-true}
 use lib.Dec.{eqb}
 use Rattle.calendar.proofs.Every.{both-true}
 use Rattle.calendar.specs.Window.{localDate, localWeekday, dayMinutes, windowLast}
-use Rattle.framed.proofs.Days.{withLast}
 use Rattle.framed.proofs.Sets.{ordinalsFor, positionsFor}
 use Rattle.framed.specs.Framed.{nothing, endsOf, weekdaysOf, daysOf, frequencyNumber, ruleFrame}
 use Rattle.frames.specs.declared.Ends.{Ends}
@@ -19,7 +18,7 @@ use Rattle.parts.specs.declared.given.Parts.{Parts}
 use Rattle.sheet.specs.Form.{Entry, Frequency, daily, weekly, monthly, Part}
 use Rattle.sheet.specs.Parts.{Given, givenOf, isGiven, givenTwice, ordinals, clashing, byFrequency, partsTogether}
 use Rattle.sheet.specs.Words.{Signed}
-use Rattle.rules.specs.Ruled.{weekdaysIn, daysIn, endless}
+use Rattle.rules.specs.Ruled.{weekdaysIn, daysIn, endless, endingAt}
 use Rattle.rules.proofs.Going.{frequency-in}
 
 weekdays-is : (f : Frequency) (o : Option (List Entry)) (first : ℕ)
@@ -136,7 +135,7 @@ module _ (ps : List Part) (start : ℕ) where
     unfolding daysIn partsGiven
     days-in = rw (frequency-in ps (some f) e) (days-are f (g .days) (g .monthDays) first (no-month-days f g c) ∙ sym (days-for f g first))
 
-    frame-in : frame (frequencyNumber f) (weekdaysOf f (g .days) first) (daysOf f g first) (ordinalsFor (g .days)) (positionsFor (g .positions)) ≡ withLast windowLast (ruleFrame g start)
+    frame-in : frame (frequencyNumber f) (weekdaysOf f (g .days) first) (daysOf f g first) (ordinalsFor (g .days)) (positionsFor (g .positions)) ≡ endingAt windowLast (ruleFrame g start)
     unfolding ruleFrame
     frame-in =
         ap
@@ -152,13 +151,13 @@ module _ (ps : List Part) (start : ℕ) where
         ∙ ap (λ (d : Ends). frame (frequencyNumber f) (weekdaysOf f (g .days) first) d ordinalsIn positionsIn) days-in
         ∙ ap₂ (λ (o s : Ends). frame (frequencyNumber f) (weekdaysOf f (g .days) first) (daysOf f g first) o s) ordinals-in positions-in
 
-  endless-by : (o : Option Frequency) → g .frequency ≡ o → byFrequency o g ≡ true → endless p start ≡ withLast windowLast (ruleFrame g start)
+  endless-by : (o : Option Frequency) → g .frequency ≡ o → byFrequency o g ≡ true → endless p start ≡ endingAt windowLast (ruleFrame g start)
   unfolding byFrequency
   endless-by none e t = absurd (false≢true t)
   endless-by (some f) e t = let c = not-true (clashing f g) t in endless-in ∙ by-fields f e c ∙ frame-in f e c
 
   -- parts that go together
-  pub endless-is : partsTogether ps ≡ true → endless p start ≡ withLast windowLast (ruleFrame g start)
+  pub endless-is : partsTogether ps ≡ true → endless p start ≡ endingAt windowLast (ruleFrame g start)
   unfolding partsTogether
   endless-is t =
       endless-by (g .frequency) refl

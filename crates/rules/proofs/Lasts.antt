@@ -1,6 +1,6 @@
 -- *Last* by the days of a rule.
 use mathlib.Core.Bool.{cond}
-use mathlib.Core.Path.{_≡_, sym, ap, _∙_}
+use mathlib.Core.Path.{_≡_, refl, sym, ap, _∙_}
 use Prim.Native.Nat.{ℕ, _+_, _-_, _*_, _/_, _%_, _<_, _≤_}
 use native.Mathlib.Omega.{arith}
 use borrow.Author.Tests.{le-ltb}
@@ -10,13 +10,13 @@ use Rattle.calendar.specs.Window.{localDate, dayMinutes, windowDays, windowLast
 use Rattle.days.proofs.Nths.{nth-same}
 use Rattle.days.specs.Search.{nthDay}
 use Rattle.frames.specs.Numbers.{dayHeld}
-use Rattle.frames.specs.Rule.{ruleDay}
+use Rattle.frames.specs.Rule.{monthDayAllowed, weekdayAllowed, inSet, placed, period, counts, ruleDay}
 use Rattle.frames.specs.declared.Rule.{Rule}
 use Rattle.good.proofs.Goods.{rule-row-day}
 use Rattle.plan.specs.Rows.{rowOf}
 use Rattle.plan.specs.declared.Frame.{Frame}
 use Rattle.zone.proofs.Good.{by-order}
-use Rattle.rules.specs.Ruled.{countLast}
+use Rattle.rules.specs.Ruled.{countLast, endingAt}
 
 -- a day of month, 0 past the window, is a bit of a mask
 day-past : (n : ℕ) → windowDays ≤ n → localDate n .day < 64
@@ -30,6 +30,11 @@ day-fits n =
     let a = local-date-holds n h in
     omega (arith, a .high, month-days-range (localDate n .month) (a .last) .1))
     (day-past n)
+
+-- the days of a rule do not depend on *last*
+pub day-with-last : (last : ℕ) (f : Rule) (d : ℕ) → ruleDay (endingAt last f) d ≡ ruleDay f d
+unfolding ruleDay counts period inSet monthDayAllowed weekdayAllowed placed
+day-with-last last f d = refl
 
 -- *last* by the day that the search over the frame's row finds
 pub count-last-by : (f : Rule) (c d : ℕ) → d ≡ nthDay (rowOf (Frame.Rule f)) c (f .start / dayMinutes)

@@ -12,7 +12,7 @@ use Rattle.calendar.specs.Below.{allOf}
 use Rattle.calendar.specs.Window.{dayMinutes, windowDays, windowMinutes, windowLast}
 use Rattle.days.proofs.Nths.{nth-same}
 use Rattle.days.specs.Search.{nthFrom}
-use Rattle.framed.proofs.Days.{day-with-last, rule-day}
+use Rattle.framed.proofs.Days.{rule-day}
 use Rattle.framed.proofs.Goods.{givenPasses, written}
 use Rattle.framed.specs.Framed.{lastOf, ruleFrame}
 use Rattle.frames.specs.Rule.{ruleDay, ruleOccurs}
@@ -30,6 +30,7 @@ use Rattle.rules.specs.Ruled.{endless, startIn, countLast, lastIn, endin
 use Rattle.rules.specs.declared.Ruled.{Ruled}
 use Rattle.rules.proofs.Framing.{endless-is}
 use Rattle.rules.proofs.Going.{together-is}
+use Rattle.rules.proofs.Lasts.{day-with-last}
 
 -- ---- UNTIL is in range
 until-with : (p : Part) (ps : List Part) → partInRange p ≡ true → givenPasses timeInRange (givenOf ps .until) ≡ true → givenPasses timeInRange (givenOf (p ∷ ps) .until) ≡ true
