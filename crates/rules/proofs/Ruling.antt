@@ -1,6 +1,6 @@
 -- What is made of the parts of a rule in numbers is what the sheet's rule is: its frame, or the refusal.
 use mathlib.Core.Bool.{Bool, true, false, cond, not, _&&_}
-use mathlib.Core.List.{List, [], _∷_}
+use mathlib.Core.List.{List}
 use mathlib.Core.Option.{Option, none, some, Option·getD}
 use mathlib.Core.Path.{_≡_, refl, ap, ap₂, _∙_}
 use Prim.Native.Nat.{ℕ, _+_, _-_, _*_, _/_, _%_, _<_}
@@ -13,7 +13,7 @@ use Rattle.calendar.specs.Window.{dayMinutes, windowDays, windowMinutes, window
 use Rattle.days.proofs.Nths.{nth-same}
 use Rattle.days.specs.Search.{nthFrom}
 use Rattle.framed.proofs.Days.{rule-day}
-use Rattle.framed.proofs.Goods.{givenPasses, written}
+use Rattle.framed.proofs.Goods.{givenPasses, written, rule-good}
 use Rattle.framed.specs.Framed.{lastOf, ruleFrame}
 use Rattle.frames.specs.Rule.{ruleDay, ruleOccurs}
 use Rattle.frames.specs.declared.Rule.{Rule}
@@ -21,7 +21,7 @@ use Rattle.masks.proofs.Bits.{decided}
 use Rattle.parts.specs.Given.{countFrom, untilFrom, partsGiven}
 use Rattle.parts.specs.declared.given.Parts.{Parts}
 use Rattle.sheet.proofs.Times.{minute-in-window}
-use Rattle.sheet.specs.Form.{Time, daily, Part, freq, interval, count, until, byDay, byMonthDay, bySetPos, rule}
+use Rattle.sheet.specs.Form.{Time, daily, Part, rule}
 use Rattle.sheet.specs.Meaning.{occursOn, occursAt, withinUntil}
 use Rattle.sheet.specs.Parts.{Given, givenOf, partsTogether}
 use Rattle.sheet.specs.Range.{timeInRange, minuteOf, partInRange, inRange}
@@ -32,22 +32,7 @@ use Rattle.rules.proofs.Framing.{endless-is}
 use Rattle.rules.proofs.Going.{together-is}
 use Rattle.rules.proofs.Lasts.{day-with-last}
 
--- ---- UNTIL is in range
-until-with : (p : Part) (ps : List Part) → partInRange p ≡ true → givenPasses timeInRange (givenOf ps .until) ≡ true → givenPasses timeInRange (givenOf (p ∷ ps) .until) ≡ true
-unfolding givenOf partInRange
-until-with (freq f) ps r e = e
-until-with (interval n) ps r e = e
-until-with (count n) ps r e = e
-until-with (until t) ps r e = r
-until-with (byDay es) ps r e = e
-until-with (byMonthDay ns) ps r e = e
-until-with (bySetPos ns) ps r e = e
-
-until-in-range : (ps : List Part) → allOf partInRange ps ≡ true → givenPasses timeInRange (givenOf ps .until) ≡ true
-unfolding givenOf
-until-in-range [] r = refl
-until-in-range (p ∷ ps) r = let a = both-true (partInRange p) (allOf partInRange ps) r in until-with p ps (a .0) (until-in-range ps (a .1))
-
+-- ---- UNTIL, where it is given and in range
 until-after : (o : Option Time) (m : ℕ) → givenPasses timeInRange o ≡ true → cond (untilFrom o .given) (leb m (untilFrom o .number)) true ≡ withinUntil o m
 until-after none m e = refl
 until-after (some t) m e = rw e refl
@@ -86,8 +71,7 @@ module _ (t : Time) (ps : List Part) (inside : inRange (rule t ps) ≡ true) (w 
   in-window = minute-in-window t (both-true (timeInRange t) (allOf partInRange ps) inside .0)
 
   until-good : givenPasses timeInRange (g .until) ≡ true
-  unfolding inRange
-  until-good = until-in-range ps (both-true (timeInRange t) (allOf partInRange ps) inside .1)
+  until-good = rule-good t ps w inside .until
 
   day-in : (d : ℕ) → d < windowDays → ruleDay f d ≡ day d
   day-in d h = ap (λ (r : Rule). ruleDay r d) (endless-is ps start go) ∙ day-with-last windowLast (ruleFrame g start) d ∙ rule-day t ps inside w d h
