@@ -1,12 +1,12 @@
 -- The frame of a rule holds what the rule holds: *last* for COUNT and for UNTIL.
-use mathlib.Core.Bool.{Bool, true, false, cond, not, _&&_, and-true, false≢true}
+use mathlib.Core.Bool.{Bool, true, false, not, _&&_, and-true, false≢true}
 use mathlib.Core.List.{List}
 use mathlib.Core.Option.{Option, none, some, Option·getD}
 use mathlib.Core.Path.{_≡_, refl, sym, ap, _∙_}
 use Prim.Native.Nat.{ℕ, _+_, _-_, _*_, _/_, _%_, _<_, _≤_}
 use native.Mathlib.Omega.{arith}
 use borrow.Author.Tests.{lt-ltb, le-ltb, le-leb, lt-leb, leb-true, eqb-true, not-true}
-use lib.Dec.{leb, ltb, eqb}
+use lib.Dec.{leb, eqb}
 use Rattle.calendar.proofs.Every.{both-true}
 use Rattle.calendar.specs.Below.{countFrom}
 use Rattle.calendar.specs.Window.{dayMinutes, windowDays, windowMinutes, windowLast}
@@ -19,22 +19,10 @@ use Rattle.sheet.specs.Parts.{Given, givenOf, isGiven, givenTwice, partsTogethe
 use Rattle.sheet.specs.Range.{minuteOf, inRange}
 use Rattle.sheet.specs.Refusals.{together}
 use Rattle.zone.proofs.Good.{by-order}
-use Rattle.framed.specs.Framed.{lastOf, ruleFrame}
+use Rattle.framed.specs.Framed.{nthLast, lastBy, lastOf, ruleFrame}
 use Rattle.framed.proofs.Days.{rule-occurs}
 use Rattle.framed.proofs.Goods.{givenPasses, written, rule-good}
 use Rattle.framed.proofs.Nths.{nth-counted}
-
-abbrev lastFor : (ℕ → Bool) → ℕ → Option Time → Option ℕ → ℕ
-lastFor test start until count =
-    let first = start / dayMinutes in
-    elim until [
-      | some t ↦ minuteOf t
-      | none ↦ elim count [
-        | none ↦ windowLast
-        | some c ↦ let d = nthFrom test c (windowDays - first) first in
-            cond (ltb d windowDays) (dayMinutes * d + start % dayMinutes) windowLast
-      ]
-    ]
 
 module _ (test : ℕ → Bool) (start m : ℕ) (h : m < windowMinutes) (from : start / dayMinutes ≤ m / dayMinutes) (time : m % dayMinutes ≡ start % dayMinutes)
     (passes : test (m / dayMinutes) ≡ true) where
@@ -44,7 +32,7 @@ module _ (test : ℕ → Bool) (start m : ℕ) (h : m < windowMinutes) (from : s
   abbrev upto : ℕ → Bool
   upto c = leb (countFrom test (m / dayMinutes + 1 - first) first) c
 
-  count-keeps : (c : ℕ) → 1 ≤ c → leb m (lastFor test start none (some c)) ≡ upto c
+  count-keeps : (c : ℕ) → 1 ≤ c → leb m (nthLast test start c) ≡ upto c
   count-keeps c p =
       let n : ℕ = nthFrom test c (windowDays - first) first in
       let d : ℕ = m / dayMinutes in
@@ -56,7 +44,7 @@ module _ (test : ℕ → Bool) (start m : ℕ) (h : m < windowMinutes) (from : s
       (λ l. rw (le-ltb n windowDays l) (le-leb m windowLast (omega arith) ∙ sym (le-leb _ c (a .upto (omega arith)))))
 
   last-keeps : (until : Option Time) (count : Option ℕ) → (isGiven count && isGiven until) ≡ false → givenPasses (leb 1) count ≡ true
-      → leb m (lastFor test start until count) ≡ (withinUntil until m && withinCount count upto)
+      → leb m (lastBy (nthLast test start) until count) ≡ (withinUntil until m && withinCount count upto)
   last-keeps none none e p = le-leb m windowLast (omega arith)
   last-keeps none (some c) e p = count-keeps c (leb-true 1 c p)
   last-keeps (some t) none e p = sym (and-true (leb m (minuteOf t)))

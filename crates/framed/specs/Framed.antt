@@ -12,7 +12,7 @@ use Rattle.frames.specs.declared.Ends.{Ends}
 use Rattle.frames.specs.declared.Rule.{Rule}
 use Rattle.masks.specs.Masks.{maskFrom}
 use Rattle.plan.specs.declared.Frame.{Frame}
-use Rattle.sheet.specs.Form.{Field, Entry, plain, ordinal, Frequency, daily, weekly, monthly, Form, zone, change, cron, rule, extra, except}
+use Rattle.sheet.specs.Form.{Time, Field, Entry, plain, ordinal, Frequency, daily, weekly, monthly, Form, zone, change, cron, rule, extra, except}
 use Rattle.sheet.specs.Meaning.{fieldHas, restricted, occursOn}
 use Rattle.sheet.specs.Parts.{Given, givenOf}
 use Rattle.sheet.specs.Range.{minuteOf, instantOfTime, offsetOfShift}
@@ -71,18 +71,21 @@ daysOf monthly g first =
       | some ns ↦ endsOf ns
     ]
 
+-- "the COUNT-th occurrence's local minute, or 52,595,999 if .. fewer occurrences exist": day d at the start's time, and the COUNT-th of the days that pass a test
+abbrev pub minuteOn : ℕ → ℕ → ℕ
+minuteOn start d = cond (ltb d windowDays) (dayMinutes * d + start % dayMinutes) windowLast
+
+abbrev pub nthLast : (ℕ → Bool) → ℕ → ℕ → ℕ
+nthLast test start c = let first = start / dayMinutes in minuteOn start (nthFrom test c (windowDays - first) first)
+
 -- "*Last* is UNTIL, or the COUNT-th occurrence's local minute, or 52,595,999 if there is neither or fewer occurrences exist."
+abbrev pub lastBy : (ℕ → ℕ) → Option Time → Option ℕ → ℕ
+lastBy nth (some t) count = minuteOf t
+lastBy nth none (some c) = nth c
+lastBy nth none none = windowLast
+
 unfoldable pub lastOf : Given → ℕ → ℕ
-lastOf g start =
-    let first = start / dayMinutes in
-    elim (g .until) [
-      | some t ↦ minuteOf t
-      | none ↦ elim (g .count) [
-        | none ↦ windowLast
-        | some c ↦ let d = nthFrom (occursOn (Option·getD (g .frequency) daily) g first) c (windowDays - first) first in
-            cond (ltb d windowDays) (dayMinutes * d + start % dayMinutes) windowLast
-      ]
-    ]
+lastOf g start = lastBy (nthLast (occursOn (Option·getD (g .frequency) daily) g (start / dayMinutes)) start) (g .until) (g .count)
 
 abbrev pub frequencyNumber : Frequency → ℕ
 frequencyNumber daily = 1

@@ -1,14 +1,13 @@
 -- *Last* by the days of a rule.
-use mathlib.Core.Bool.{cond}
 use mathlib.Core.Path.{_≡_, refl, sym, ap, _∙_}
-use Prim.Native.Nat.{ℕ, _+_, _-_, _*_, _/_, _%_, _<_, _≤_}
+use Prim.Native.Nat.{ℕ, _-_, _/_, _<_, _≤_}
 use native.Mathlib.Omega.{arith}
 use borrow.Author.Tests.{le-ltb}
-use lib.Dec.{ltb}
 use Rattle.calendar.proofs.Windows.{local-date-holds, month-days-range}
-use Rattle.calendar.specs.Window.{localDate, dayMinutes, windowDays, windowLast}
+use Rattle.calendar.specs.Window.{localDate, dayMinutes, windowDays}
 use Rattle.days.proofs.Nths.{nth-same}
 use Rattle.days.specs.Search.{nthDay}
+use Rattle.framed.specs.Framed.{minuteOn}
 use Rattle.frames.specs.Numbers.{dayHeld}
 use Rattle.frames.specs.Rule.{monthDayAllowed, weekdayAllowed, inSet, placed, period, counts, ruleDay}
 use Rattle.frames.specs.declared.Rule.{Rule}
@@ -38,9 +37,9 @@ day-with-last last f d = refl
 
 -- *last* by the day that the search over the frame's row finds
 pub count-last-by : (f : Rule) (c d : ℕ) → d ≡ nthDay (rowOf (Frame.Rule f)) c (f .start / dayMinutes)
-    → countLast f c ≡ cond (ltb d windowDays) (dayMinutes * d + f .start % dayMinutes) windowLast
+    → countLast f c ≡ minuteOn (f .start) d
 unfolding countLast nthDay
 count-last-by f c d e =
     let first : ℕ = f .start / dayMinutes in
-    ap (λ (x : ℕ). cond (ltb x windowDays) (dayMinutes * x + f .start % dayMinutes) windowLast)
+    ap (minuteOn (f .start))
     (sym (e ∙ nth-same (dayHeld (rowOf (Frame.Rule f))) (ruleDay f) c (windowDays - first) first (λ j l h. rule-row-day f j)))

@@ -3,18 +3,17 @@ use mathlib.Core.Bool.{Bool, true, false, cond, not, _&&_}
 use mathlib.Core.List.{List}
 use mathlib.Core.Option.{Option, none, some, Option·getD}
 use mathlib.Core.Path.{_≡_, refl, ap, ap₂, _∙_}
-use Prim.Native.Nat.{ℕ, _+_, _-_, _*_, _/_, _%_, _<_}
+use Prim.Native.Nat.{ℕ, _-_, _/_, _%_, _<_}
 use native.Mathlib.Omega.{arith}
 use borrow.Author.Tests.{lt-ltb}
-use lib.Dec.{leb, ltb, eqb}
+use lib.Dec.{leb, eqb}
 use Rattle.calendar.proofs.Every.{both-true}
 use Rattle.calendar.specs.Below.{allOf}
 use Rattle.calendar.specs.Window.{dayMinutes, windowDays, windowMinutes, windowLast}
 use Rattle.days.proofs.Nths.{nth-same}
-use Rattle.days.specs.Search.{nthFrom}
 use Rattle.framed.proofs.Days.{rule-day}
 use Rattle.framed.proofs.Goods.{givenPasses, written, rule-good}
-use Rattle.framed.specs.Framed.{lastOf, ruleFrame}
+use Rattle.framed.specs.Framed.{minuteOn, nthLast, lastBy, lastOf, ruleFrame}
 use Rattle.frames.specs.Rule.{ruleDay, ruleOccurs}
 use Rattle.frames.specs.declared.Rule.{Rule}
 use Rattle.masks.proofs.Bits.{decided}
@@ -36,9 +35,6 @@ use Rattle.rules.proofs.Lasts.{day-with-last}
 until-after : (o : Option Time) (m : ℕ) → givenPasses timeInRange o ≡ true → cond (untilFrom o .given) (leb m (untilFrom o .number)) true ≡ withinUntil o m
 until-after none m e = refl
 until-after (some t) m e = rw e refl
-
-abbrev lastBy : (ℕ → ℕ) → Option Time → Option ℕ → ℕ
-lastBy nth end most = elim end [ some t ↦ minuteOf t | none ↦ elim most [ none ↦ windowLast | some c ↦ nth c ] ]
 
 last-by : (nth : ℕ → ℕ) (end : Option Time) (most : Option ℕ) → givenPasses timeInRange end ≡ true
     → cond (untilFrom end .given) (untilFrom end .number) (cond (countFrom most .given) (nth (countFrom most .number)) windowLast) ≡ lastBy nth end most
@@ -84,20 +80,16 @@ module _ (t : Time) (ps : List Part) (inside : inRange (rule t ps) ≡ true) (w 
   unfolding startIn startOccurs endless partsGiven
   start-is = rw (lt-ltb start windowMinutes in-window) (ap₂ _&&_ occurs-in (until-after (g .until) start until-good))
 
-  abbrev nthLast : ℕ → ℕ
-  nthLast c = let d = nthFrom day c (windowDays - first) first in cond (ltb d windowDays) (dayMinutes * d + start % dayMinutes) windowLast
-
-  count-last-is : (c : ℕ) → countLast f c ≡ nthLast c
+  count-last-is : (c : ℕ) → countLast f c ≡ nthLast day start c
   unfolding countLast endless
   count-last-is c =
-      ap (λ (d : ℕ). cond (ltb d windowDays) (dayMinutes * d + start % dayMinutes) windowLast)
-      (nth-same (ruleDay f) day c (windowDays - first) first (λ j l h. day-in j (omega (arith, in-window))))
+      ap (minuteOn start) (nth-same (ruleDay f) day c (windowDays - first) first (λ j l h. day-in j (omega (arith, in-window))))
 
   last-is : lastIn p f ≡ lastOf g start
   unfolding lastIn lastOf partsGiven
   last-is =
       ap (λ (l : ℕ). cond (untilFrom (g .until) .given) (untilFrom (g .until) .number) (cond (countFrom (g .count) .given) l windowLast)) (count-last-is (countFrom (g .count) .number))
-      ∙ last-by nthLast (g .until) (g .count) until-good
+      ∙ last-by (nthLast day start) (g .until) (g .count) until-good
 
   frame-is : endingAt (lastIn p f) f ≡ ruleFrame g start
   unfolding ruleFrame

@@ -1,9 +1,9 @@
 -- The frame of a rule, or why it has none, from its parts in numbers and the local minute of its start.
 use mathlib.Core.Bool.{Bool, true, cond, not, _&&_}
-use Prim.Native.Nat.{ℕ, _+_, _-_, _*_, _/_, _%_, _^_}
-use lib.Dec.{leb, ltb, eqb}
-use Rattle.calendar.specs.Window.{localDate, localWeekday, dayMinutes, windowDays, windowLast}
-use Rattle.days.specs.Search.{nthFrom}
+use Prim.Native.Nat.{ℕ, _/_, _^_}
+use lib.Dec.{leb, eqb}
+use Rattle.calendar.specs.Window.{localDate, localWeekday, dayMinutes, windowLast}
+use Rattle.framed.specs.Framed.{nthLast}
 use Rattle.frames.specs.Kinds.{dailyNumber, weeklyNumber, monthlyNumber}
 use Rattle.frames.specs.Rule.{ruleDay, ruleOccurs}
 use Rattle.frames.specs.declared.Ends.{Ends}
@@ -53,10 +53,7 @@ startIn p f = (inWindow (f .start) && ruleOccurs f (f .start)) && cond (p .until
 
 -- "the COUNT-th occurrence's local minute, or 52,595,999 if .. fewer occurrences exist"
 unfoldable pub countLast : Rule → ℕ → ℕ
-countLast f c =
-    let first = f .start / dayMinutes in
-    let d = nthFrom (ruleDay f) c (windowDays - first) first in
-    cond (ltb d windowDays) (dayMinutes * d + f .start % dayMinutes) windowLast
+countLast f c = nthLast (ruleDay f) (f .start) c
 
 -- "*Last* is UNTIL, or the COUNT-th occurrence's local minute, or 52,595,999 if there is neither"
 unfoldable pub lastIn : Parts → Rule → ℕ
