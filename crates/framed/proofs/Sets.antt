@@ -38,7 +38,7 @@ pub record Framed (f : Frequency) (g : Given) (first : ℕ) (r : Rule) : Type 0 
   pub interval : r .interval ≡ Option·getD (g .interval) 1
   pub start : r .start / dayMinutes ≡ first
   pub weekdays : r .weekdays ≡ weekdaysOf f (g .days) first
-  pub days : r .days ≡ daysOf f g first
+  pub days : r .days ≡ daysOf f (g .days) (g .monthDays) first
   pub ordinals : r .ordinals ≡ ordinalsFor (g .days)
   pub positions : r .positions ≡ positionsFor (g .positions)
 
@@ -68,15 +68,15 @@ module _ (first d : ℕ) (h : d < windowDays) where
   monthDaysHave monthly (some es) none = true
   monthDaysHave monthly none none = eqb (localDate d .day) (localDate first .day)
 
-  month-days-have : (f : Frequency) (g : Given) (es : Option (List Entry)) (ns : Option (List Signed)) → g .days ≡ es → g .monthDays ≡ ns
-      → givenPasses (listed dayNumberInRange) ns ≡ true → limitHas (daysOf f g first) ≡ monthDaysHave f es ns
+  month-days-have : (f : Frequency) (es : Option (List Entry)) (ns : Option (List Signed)) → givenPasses (listed dayNumberInRange) ns ≡ true
+      → limitHas (daysOf f es ns first) ≡ monthDaysHave f es ns
   unfolding daysOf
-  month-days-have weekly g es ns e n l = refl
-  month-days-have daily g es none e n l = rw n refl
-  month-days-have daily g es (some ns) e n l = rw n (numbers-have ns l)
-  month-days-have monthly g es (some ns) e n l = rw n (numbers-have ns l)
-  month-days-have monthly g (some es) none e n l = rw (n, e) refl
-  month-days-have monthly g none none e n l = rw (n, e) own-day-has
+  month-days-have weekly es ns l = refl
+  month-days-have daily es none l = refl
+  month-days-have daily es (some ns) l = numbers-have ns l
+  month-days-have monthly es (some ns) l = numbers-have ns l
+  month-days-have monthly (some es) none l = refl
+  month-days-have monthly none none l = own-day-has
 
   -- ---- weekdays
   abbrev entriesHave : Frequency → Option (List Entry) → Bool
@@ -112,6 +112,6 @@ module _ (f : Frequency) (g : Given) (first : ℕ) (r : Rule) (a : Framed f g fi
   pub in-set-is : inSet r d ≡ daySet f g first d
   unfolding inSet monthDayAllowed
   in-set-is =
-      ap₂ _&&_ (ap (limitHas first d h) (a .days) ∙ month-days-have first d h f g (g .days) (g .monthDays) refl refl (good .monthDays))
+      ap₂ _&&_ (ap (limitHas first d h) (a .days) ∙ month-days-have first d h f (g .days) (g .monthDays) (good .monthDays))
       (entries-have first d h r f (g .days) (a .weekdays) (a .ordinals) (good .days))
       ∙ sym (day-set-has first d h f g (g .days) (g .monthDays) refl refl)

@@ -62,14 +62,13 @@ weekdaysOf daily none first = 0
 weekdaysOf weekly none first = 2 ^ localWeekday first
 weekdaysOf monthly none first = 0
 
-unfoldable pub daysOf : Frequency → Given → ℕ → Ends
-daysOf daily g first = elim (g .monthDays) [ none ↦ nothing | some ns ↦ endsOf ns ]
-daysOf weekly g first = nothing
-daysOf monthly g first =
-    elim (g .monthDays) [
-      | none ↦ elim (g .days) [ none ↦ record { front = 2 ^ localDate first .day; back = 0 } | some es ↦ nothing ]
-      | some ns ↦ endsOf ns
-    ]
+unfoldable pub daysOf : Frequency → Option (List Entry) → Option (List Signed) → ℕ → Ends
+daysOf daily es none first = nothing
+daysOf daily es (some ns) first = endsOf ns
+daysOf weekly es ns first = nothing
+daysOf monthly es (some ns) first = endsOf ns
+daysOf monthly (some es) none first = nothing
+daysOf monthly none none first = record { front = 2 ^ localDate first .day; back = 0 }
 
 -- "the COUNT-th occurrence's local minute, or 52,595,999 if .. fewer occurrences exist": day d at the start's time, and the COUNT-th of the days that pass a test
 abbrev pub minuteOn : ℕ → ℕ → ℕ
@@ -102,7 +101,7 @@ ruleFrame g start =
       start = start;
       last = lastOf g start;
       weekdays = weekdaysOf f (g .days) first;
-      days = daysOf f g first;
+      days = daysOf f (g .days) (g .monthDays) first;
       ordinals = elim (g .days) [ none ↦ nothing | some es ↦ record { front = ordinalsOf false es; back = ordinalsOf true es } ];
       positions = elim (g .positions) [ none ↦ nothing | some ns ↦ endsOf ns ];
     }

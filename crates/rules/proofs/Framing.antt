@@ -9,7 +9,7 @@ use lib.Dec.{eqb}
 use Rattle.calendar.proofs.Every.{both-true}
 use Rattle.calendar.specs.Window.{localDate, localWeekday, dayMinutes, windowLast}
 use Rattle.framed.proofs.Sets.{ordinalsFor, positionsFor}
-use Rattle.framed.specs.Framed.{nothing, endsOf, weekdaysOf, daysOf, frequencyNumber, ruleFrame}
+use Rattle.framed.specs.Framed.{weekdaysOf, daysOf, frequencyNumber, ruleFrame}
 use Rattle.frames.specs.declared.Ends.{Ends}
 use Rattle.frames.specs.declared.Rule.{Rule}
 use Rattle.parts.specs.Given.{daysFrom, numbersFrom, partsGiven}
@@ -31,29 +31,14 @@ weekdays-is weekly (some es) first = refl
 weekdays-is monthly none first = refl
 weekdays-is monthly (some es) first = refl
 
-abbrev daysFor : Frequency → Option (List Entry) → Option (List Signed) → ℕ → Ends
-daysFor daily days monthDays first = elim monthDays [ none ↦ nothing | some ns ↦ endsOf ns ]
-daysFor weekly days monthDays first = nothing
-daysFor monthly days monthDays first =
-    elim monthDays [
-      | none ↦ elim days [ none ↦ record { front = 2 ^ localDate first .day; back = 0 } | some es ↦ nothing ]
-      | some ns ↦ endsOf ns
-    ]
-
-days-for : (f : Frequency) (g : Given) (first : ℕ) → daysOf f g first ≡ daysFor f (g .days) (g .monthDays) first
-unfolding daysOf
-days-for daily g first = refl
-days-for weekly g first = refl
-days-for monthly g first = refl
-
 abbrev withNumbers : Frequency → Option (List Entry) → Option (List Signed) → ℕ → Ends
 withNumbers f days monthDays first =
     cond (eqb (frequencyNumber f) 3 && (not (daysFrom days .given) && not (numbersFrom monthDays .given))) (record { front = 2 ^ localDate first .day; back = 0 })
     (record { front = numbersFrom monthDays .front; back = numbersFrom monthDays .back })
 
 days-are : (f : Frequency) (days : Option (List Entry)) (monthDays : Option (List Signed)) (first : ℕ) → (eqb (frequencyNumber f) 2 && isGiven monthDays) ≡ false
-    → withNumbers f days monthDays first ≡ daysFor f days monthDays first
-unfolding weekdaysGiven numbersGiven
+    → withNumbers f days monthDays first ≡ daysOf f days monthDays first
+unfolding daysOf weekdaysGiven numbersGiven
 days-are daily days none first e = refl
 days-are daily days (some ns) first e = refl
 days-are weekly days none first e = refl
@@ -131,25 +116,25 @@ module _ (ps : List Part) (start : ℕ) where
     unfolding weekdaysIn partsGiven
     weekdays-in = rw (frequency-in ps (some f) e) (weekdays-is f (g .days) first)
 
-    days-in : daysIn p first ≡ daysOf f g first
+    days-in : daysIn p first ≡ daysOf f (g .days) (g .monthDays) first
     unfolding daysIn partsGiven
-    days-in = rw (frequency-in ps (some f) e) (days-are f (g .days) (g .monthDays) first (no-month-days f g c) ∙ sym (days-for f g first))
+    days-in = rw (frequency-in ps (some f) e) (days-are f (g .days) (g .monthDays) first (no-month-days f g c))
 
-    frame-in : frame (frequencyNumber f) (weekdaysOf f (g .days) first) (daysOf f g first) (ordinalsFor (g .days)) (positionsFor (g .positions)) ≡ endingAt windowLast (ruleFrame g start)
+    frame-in : frame (frequencyNumber f) (weekdaysOf f (g .days) first) (daysOf f (g .days) (g .monthDays) first) (ordinalsFor (g .days)) (positionsFor (g .positions)) ≡ endingAt windowLast (ruleFrame g start)
     unfolding ruleFrame
     frame-in =
         ap
         (λ (o : Option Frequency).
         let h = Option·getD o daily in
-        frame (frequencyNumber h) (weekdaysOf h (g .days) first) (daysOf h g first) (ordinalsFor (g .days)) (positionsFor (g .positions)))
+        frame (frequencyNumber h) (weekdaysOf h (g .days) first) (daysOf h (g .days) (g .monthDays) first) (ordinalsFor (g .days)) (positionsFor (g .positions)))
         (sym e)
 
     by-fields : frame (p .frequency) (weekdaysIn p first) (daysIn p first) ordinalsIn positionsIn
-        ≡ frame (frequencyNumber f) (weekdaysOf f (g .days) first) (daysOf f g first) (ordinalsFor (g .days)) (positionsFor (g .positions))
+        ≡ frame (frequencyNumber f) (weekdaysOf f (g .days) first) (daysOf f (g .days) (g .monthDays) first) (ordinalsFor (g .days)) (positionsFor (g .positions))
     by-fields =
         ap₂ (λ (q w : ℕ). frame q w (daysIn p first) ordinalsIn positionsIn) (frequency-in ps (some f) e) weekdays-in
         ∙ ap (λ (d : Ends). frame (frequencyNumber f) (weekdaysOf f (g .days) first) d ordinalsIn positionsIn) days-in
-        ∙ ap₂ (λ (o s : Ends). frame (frequencyNumber f) (weekdaysOf f (g .days) first) (daysOf f g first) o s) ordinals-in positions-in
+        ∙ ap₂ (λ (o s : Ends). frame (frequencyNumber f) (weekdaysOf f (g .days) first) (daysOf f (g .days) (g .monthDays) first) o s) ordinals-in positions-in
 
   endless-by : (o : Option Frequency) → g .frequency ≡ o → byFrequency o g ≡ true → endless p start ≡ endingAt windowLast (ruleFrame g start)
   unfolding byFrequency
