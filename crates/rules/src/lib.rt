@@ -37,7 +37,7 @@ fn by_frequency(p: Parts) -> bool
 }
 
 // Whether the parts go together.
-pub fn together(p: Parts) -> bool
+fn together(p: Parts) -> bool
     ensures { λ r. ⌜ r ≡ togetherIn p ⌝ }
 {
     let count = p.count;
