@@ -7,7 +7,7 @@ use Prim.Native.Nat.{ℕ, zero, suc, _+_, _-_, _*_, _/_, _%_, _^_, _<_, _≤_}
 use native.Mathlib.Omega.{arith}
 use borrow.Author.Tests.{leb-true, le-leb, ltb-true, eq-eqb, ne-eqb, eqb-true, eqb-false}
 use lib.Dec.{leb, ltb, eqb}
-use Rattle.calendar.proofs.Every.{both-true}
+use Rattle.calendar.proofs.Every.{both-true, same-either-way}
 use Rattle.calendar.specs.Below.{within, anyOf, allOf}
 use Rattle.frames.specs.Rule.{ordinalMask}
 use Rattle.framed.proofs.Ends.{signedAs}
@@ -192,11 +192,7 @@ plain-between (ordinal n w) = record { between = λ k e. let z : _≡_ {A = ℕ}
 
 plain-at : (i : ℕ) (x : Entry) → weekdayWritten x ≡ true → isAt i (plainPlace x) ≡ isPlain i x
 unfolding plainPlace
-plain-at i (plain w) e = rw e (by-same (eqb w i) refl)
-  where
-    by-same : (b : Bool) → eqb w i ≡ b → eqb i w ≡ eqb w i
-    by-same true f = rw f (eq-eqb i w (sym (eqb-true w i f)))
-    by-same false f = rw f (ne-eqb i w (λ (g : i ≡ w). eqb-false w i f (sym g)))
+plain-at i (plain w) e = rw e (same-either-way i w)
 plain-at i (ordinal n w) e = refl
 
 plains : (es : List Entry) → allOf weekdayWritten es ≡ true → setAll plainPlace 0 es ≡ maskFrom (λ w. anyOf (isPlain w) es) 7 0

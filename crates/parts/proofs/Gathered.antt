@@ -5,9 +5,10 @@ use mathlib.Core.Option.{Option, none, some, Option·getD}
 use mathlib.Core.Path.{_≡_, refl, sym, ap, _∙_}
 use Prim.Native.Nat.{ℕ, _+_, _<_}
 use native.Mathlib.Omega.{arith}
-use borrow.Author.Tests.{eq-eqb, ne-eqb, eqb-true, eqb-false}
+use borrow.Author.Tests.{ne-eqb, eqb-true}
 use lib.Dec.{eqb}
 use lib.ListN.{length}
+use Rattle.calendar.proofs.Every.{same-either-way, regrouped}
 use Rattle.calendar.specs.Below.{anyOf, allOf}
 use Rattle.entries.specs.Lists.{weekdaysGiven, numbersGiven}
 use Rattle.masks.proofs.MaskFroms.{mask-ext, mask-from-same, mask-from-below, bit-in-mask}
@@ -136,7 +137,7 @@ module _ (p : Part) where
   twice-more [] = refl
   twice-more (q ∷ ps) =
       rw (any-more ps, twice-more ps)
-      (by-cases (anyOf (λ r. eqb (nameOf q) (nameOf r)) ps) (eqb (nameOf q) (nameOf p)) (givenTwice ps) (named (nameOf p) ps))
+      (regrouped (anyOf (λ r. eqb (nameOf q) (nameOf r)) ps) (eqb (nameOf q) (nameOf p)) (givenTwice ps) (named (nameOf p) ps))
     where
       any-more : (ps : List Part) → anyOf (λ r. eqb (nameOf q) (nameOf r)) (ps ++ (p ∷ [])) ≡ (anyOf (λ r. eqb (nameOf q) (nameOf r)) ps || eqb (nameOf q) (nameOf p))
       any-more [] = or-false (eqb (nameOf q) (nameOf p))
@@ -146,13 +147,6 @@ module _ (p : Part) where
               → (b || anyOf (λ r. eqb (nameOf q) (nameOf r)) (ps ++ (p ∷ []))) ≡ (b || anyOf (λ r. eqb (nameOf q) (nameOf r)) ps || eqb (nameOf q) (nameOf p))
           by-first true e = refl
           by-first false e = e
-
-      by-cases : (a b c d : Bool) → (a || b || (c || d)) ≡ (a || c || (b || d))
-      by-cases true b c d = refl
-      by-cases false true true d = refl
-      by-cases false true false d = refl
-      by-cases false false true d = refl
-      by-cases false false false d = refl
 
   -- a name that was there stays as it was, and one that was not is the part's or nobody's
   lookup-there : (k : ℕ) (ps : List Part) → named k ps ≡ true → lookup k (ps ++ (p ∷ [])) ≡ lookup k ps
@@ -270,12 +264,8 @@ module _ (p : Part) (ps : List Part) where
       (λ i l.
       bit-of-with-bit (namesOf ps) (nameOf p) i (omega (arith, name-below p))
       ∙ ap (λ (b : Bool). b || eqb i (nameOf p)) (bit-in-mask (λ k. named k ps) 7 0 i (omega arith) l)
-      ∙ ap (λ (b : Bool). named i ps || b) (turned i (eqb (nameOf p) i) refl)
+      ∙ ap (λ (b : Bool). named i ps || b) (same-either-way i (nameOf p))
       ∙ sym (bit-in-mask (λ k. named k (ps ++ (p ∷ []))) 7 0 i (omega arith) l ∙ named-more p i ps))
-    where
-      turned : (i : ℕ) (b : Bool) → eqb (nameOf p) i ≡ b → eqb i (nameOf p) ≡ eqb (nameOf p) i
-      turned i true f = rw f (eq-eqb i (nameOf p) (sym (eqb-true (nameOf p) i f)))
-      turned i false f = rw f (ne-eqb i (nameOf p) (λ (g : i ≡ nameOf p). eqb-false (nameOf p) i f (sym g)))
 
   part-step : taken (partsGiven ps) (partAs p) ≡ partsGiven (ps ++ (p ∷ []))
   unfolding taken partsGiven
