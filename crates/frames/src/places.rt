@@ -1,4 +1,7 @@
 // A frame as a row of numbers: its kind first, and which number stands where.
+ghost use mathlib.Core.Path.{_≡_};
+ghost use lib.ListN.{replicate};
+
 pub const NUMBERS: usize = 16;
 
 pub type Row = [u64; NUMBERS];
@@ -8,12 +11,23 @@ pub const FRAMES: usize = 64;
 
 pub type Rows = [Row; FRAMES];
 
+// Rows to fill. Ones, since a fill by zeros is a memset, which may go byte by byte.
+pub fn fresh_rows() -> Rows
+    ensures { λ r. ⌜ r ≡ replicate 64 (replicate 16 1) ⌝ }
+{
+    let row = [1u64; NUMBERS];
+    [row; FRAMES]
+}
+
 pub const KIND: usize = 0;
 
 // Frame 01; frames 05 and 06.
 pub const OFFSET: usize = 1;
 
 pub const MINUTE: usize = 1;
+
+// Frame FF.
+pub const COUNT: usize = 1;
 
 // Frame 02.
 pub const AT: usize = 1;

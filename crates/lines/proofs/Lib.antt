@@ -1,2 +1,3 @@
 -- What the proofs of lines share.
 pub mod Ends
+pub mod Counting

@@ -1,7 +1,7 @@
 -- "Each line .. and then LF (0A)."
-use mathlib.Core.Bool.{true, false}
+use mathlib.Core.Bool.{true, false, cond}
 use mathlib.Core.List.{List, [], _∷_}
-use Prim.Native.Nat.{ℕ, _-_}
+use Prim.Native.Nat.{ℕ, _+_, _-_}
 use lib.Dec.{eqb}
 use lib.ListN.{length, getD}
 use Rattle.calendar.specs.Below.{leastFrom}
@@ -25,3 +25,11 @@ linesOf (c ∷ cs) =
 -- the place of the first LF from a place on, or the text's end
 unfoldable pub lineEnd : List ℕ → ℕ → ℕ
 lineEnd text at = leastFrom (λ i. eqb (getD text i 0) 10) (length text - at) at
+
+-- whether a line has begun and not ended after a byte
+abbrev pub begunBy : ℕ → ℕ
+begunBy c = cond (eqb c 10) 0 1
+
+-- "(a tail without LF is a line)"
+unfoldable pub linesIn : List ℕ → ℕ
+linesIn text = let r = linesOf text in length (r .whole) + cond (eqb (length (r .tail)) 0) 0 1

@@ -2,14 +2,12 @@
 ghost use mathlib.Core.List.{map};
 ghost use mathlib.Core.Path.{_≡_};
 ghost use Prim.Native.Nat.{_≤_};
-ghost use lib.ListN.{replicate};
 ghost use lib.Seq.{sets};
 ghost use Rattle.plan.specs.Rows.{rowOf};
 ghost use Rattle.plan.specs.Taken.{load as loadOf};
 ghost use Rattle.load.specs.Loads.{endedAs, loadedAs, readFrames};
-use frames::places::FRAMES;
-use frames::places::NUMBERS;
 use frames::places::Rows;
+use frames::places::fresh_rows;
 use line::Allowed;
 use place::Before;
 use plan::text;
@@ -17,14 +15,6 @@ use plan::text;
 mod line;
 pub mod offsets;
 mod place;
-
-// Rows to load into. Ones, since a fill by zeros is a memset, which may go byte by byte.
-pub fn fresh_rows() -> Rows
-    ensures { λ r. ⌜ r ≡ replicate 64 (replicate 16 1) ⌝ }
-{
-    let row = [1u64; NUMBERS];
-    [row; FRAMES]
-}
 
 // A plan that is taken, with its number of frames, or the line that is not allowed.
 pub enum Loaded {

@@ -8,6 +8,7 @@ ghost use Rattle.zone.specs.Zone.{zoneGood};
 ghost use Rattle.next.specs.Instants.{InstantOf};
 ghost use Rattle.next.specs.Plans.{RightOf, AskedIn, NextIn, PreviousIn, answerOf, foundOf, localOf, localIn};
 use frames::places::Rows;
+use frames::places::fresh_rows;
 use instants::next_found;
 use instants::previous_found;
 use load::Loaded;
@@ -90,7 +91,7 @@ fn in_rows(rows: &Rows, count: usize, ask: Ask) -> Found
 fn in_plan(plan: &[u8], ask: Ask) -> Answer
     ensures { λ r. ⌜ AskedIn (now (plan .entry)) ask r ⌝ }
 {
-    let mut rows = load::fresh_rows();
+    let mut rows = fresh_rows();
     match load::load(plan, &mut rows) {
         Loaded::Refused(line) => Answer::Refused(line),
         Loaded::Taken(count) => answer_of(in_rows(&rows, count, ask)),

@@ -69,6 +69,17 @@ line-end-put f l at h =
 pub whole-length : (f : Frame) → length (wholeLine f) ≡ length (frameLine f) + 1
 whole-length f = length-append (frameLine f) (10 ∷ [])
 
+-- no line is longer than a rule's
+pub line-short : (f : Frame) → length (frameLine f) ≤ 78
+unfolding frameLine hexOf
+line-short (Frame.Offset o) = omega arith
+line-short (Frame.Change t) = omega arith
+line-short (Frame.Cron f) = omega arith
+line-short (Frame.Rule f) = omega arith
+line-short (Frame.Extra m) = omega arith
+line-short (Frame.Excepted m) = omega arith
+line-short (Frame.End n) = omega arith
+
 -- a plan's text line by line, from either end
 pub text-cons : (f : Frame) (fs : List Frame) → wholeLine f ++ planText fs ≡ planText (f ∷ fs)
 unfolding planText

@@ -12,7 +12,7 @@ use Rattle.frames.specs.declared.Cron.{Cron}
 use Rattle.frames.specs.declared.Rule.{Rule}
 use Rattle.zone.specs.Zone.{inWindow}
 use Rattle.plan.specs.Plan.{frameHolds, frameExcepts, planHeld}
-use Rattle.plan.specs.Rows.{rowOf}
+use Rattle.plan.specs.Rows.{rowOf, frameIn}
 use Rattle.plan.specs.declared.Frame.{Frame}
 
 pub cron-row-back : (f : Cron) → cronOf (rowOf (Frame.Cron f)) ≡ f
@@ -22,6 +22,16 @@ cron-row-back f = refl
 pub rule-row-back : (f : Rule) → ruleOf (rowOf (Frame.Rule f)) ≡ f
 unfolding rowOf
 rule-row-back f = refl
+
+pub frame-in-row : (f : Frame) → frameIn (rowOf f) ≡ f
+unfolding rowOf frameIn
+frame-in-row (Frame.Offset o) = refl
+frame-in-row (Frame.Change t) = refl
+frame-in-row (Frame.Cron f) = refl
+frame-in-row (Frame.Rule f) = refl
+frame-in-row (Frame.Extra m) = refl
+frame-in-row (Frame.Excepted m) = refl
+frame-in-row (Frame.End n) = refl
 
 pub row-held : (f : Frame) (m : ℕ) → frameHeld (rowOf f) m ≡ frameHolds m f
 unfolding rowOf frameHeld frameHolds

@@ -5,7 +5,7 @@ ghost use Prim.Native.Nat.{_+_, _/_, _≤_};
 ghost use lib.ListN.{length};
 ghost use Rattle.hex.specs.Hex.{numberAt, putAt, pastPut};
 ghost use Rattle.plan.specs.Read.{lineOf, lineRead};
-ghost use Rattle.plan.specs.Rows.{sixteen, rowOf};
+ghost use Rattle.plan.specs.Rows.{sixteen, rowOf, frameIn};
 ghost use Rattle.plan.specs.Text.{wholeLine, movedUp, changeFrom, cronFrom, endsFrom, ruleFrom, frameFrom};
 use crate::Frame;
 use crate::puts;
@@ -13,6 +13,8 @@ use frames::Cron;
 use frames::Ends;
 use frames::Rule;
 use frames::kinds;
+use frames::numbers;
+use frames::places;
 use frames::places::Row;
 use frames::truth::both;
 use zone::Transition;
@@ -191,6 +193,31 @@ pub fn row_of(frame: Frame) -> Row
         Frame::Excepted(m) => short_row(kinds::EXCEPTED, m, 0),
         Frame::End(n) => short_row(kinds::END, n, 0),
     }
+}
+
+// The frame that a row holds.
+pub fn frame_in(row: &Row) -> Frame
+    ensures { λ r. ⌜ r ≡ frameIn (now (row .entry)) ⌝ }
+{
+    match row[places::KIND] {
+        kinds::OFFSET => Frame::Offset(row[places::OFFSET]),
+        kinds::CHANGE => Frame::Change(Transition {
+            at: row[places::AT],
+            offset: row[places::NEW_OFFSET],
+        }),
+        kinds::CRON => Frame::Cron(numbers::cron_of(row)),
+        kinds::RULE => Frame::Rule(numbers::rule_of(row)),
+        kinds::EXTRA => Frame::Extra(row[places::MINUTE]),
+        kinds::EXCEPTED => Frame::Excepted(row[places::MINUTE]),
+        _ => Frame::End(row[places::COUNT]),
+    }
+}
+
+// The bytes of a frame's line with its LF.
+pub fn length_of(frame: Frame) -> usize
+    ensures { λ r. ⌜ r ≡ length (wholeLine frame) ⌝ }
+{
+    puts::size_of(frame) + 1
 }
 
 // Writes a frame's line with its LF from place `at` on; the place after it, or `at` and no byte changed if it does not fit.

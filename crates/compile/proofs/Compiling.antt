@@ -1,0 +1,177 @@
+-- A sheet that is taken or refused, and what comes of it.
+use mathlib.Core.Bool.{Bool, true, false, cond, _||_}
+use mathlib.Core.List.{List, [], _∷_, _++_, map}
+use mathlib.Core.Path.{_≡_, refl, sym, ap, _∙_}
+use Prim.Native.Nat.{ℕ, suc, _+_, _-_, _<_, _≤_}
+use native.Mathlib.Nat.{add-zero, zero-add}
+use native.Mathlib.Omega.{arith}
+use borrow.Author.Tests.{lt-ltb, le-ltb, ltb-false}
+use lib.Dec.{ltb}
+use lib.ListN.{length, take, drop, length-append}
+use lib.Seq.{sets, length-sets, sets-eq, take-append-seam}
+use Rattle.framed.specs.Framed.{frameOf}
+use Rattle.hex.proofs.Puts.{put-inside}
+use Rattle.hex.specs.Hex.{putAt}
+use Rattle.lines.specs.Lines.{linesOf, linesIn}
+use Rattle.plan.proofs.Placing.{text-snoc}
+use Rattle.plan.proofs.Rows.{frame-in-row}
+use Rattle.plan.specs.Rows.{rowOf, frameIn}
+use Rattle.plan.specs.Text.{wholeLine, planText}
+use Rattle.plan.specs.declared.Frame.{Frame}
+use Rattle.sheet.specs.Form.{Form}
+use Rattle.sheet.specs.Refusals.{Sheet, taken, refused, tooLong, readSheet, badAt, badLength}
+use Rattle.compile.specs.Answers.{compiledAs, leftIn, framesIn}
+use Rattle.compile.specs.Compiled.{Compiled, plan, refusal, compiledFrames, compiledText, compile}
+use Rattle.compile.specs.Reading.{Framed, frames, framed, framesRead, refusalAs, readAs, first}
+use Rattle.compile.specs.declared.Compiled.{Compiled as Answer}
+use Rattle.compile.specs.declared.Refusal.{Refusal}
+use Rattle.compile.specs.declared.reading.Sheet.{Sheet as Read}
+use Rattle.compile.proofs.Framing.{asFrom, framed-is, frames-read}
+
+-- ---- the frames of some lines after n others, then the end frame
+abbrev framesAfter : ℕ → List Form → List Frame
+framesAfter n [] = Frame.End n ∷ []
+framesAfter n (f ∷ fs) = frameOf f ∷ framesAfter (suc n) fs
+
+frames-after : (fs : List Form) (n : ℕ) → framesAfter n fs ≡ map frameOf fs ++ (Frame.End (n + length fs) ∷ [])
+frames-after [] n = rw add-zero
+frames-after (f ∷ fs) n =
+    let e : suc n + length fs ≡ n + suc (length fs) = omega arith in
+    ap (λ (gs : List Frame). frameOf f ∷ gs) (frames-after fs (suc n) ∙ rw e)
+
+pub compiled-frames : (fs : List Form) → compiledFrames fs ≡ map frameOf fs ++ (Frame.End (length fs) ∷ [])
+unfolding compiledFrames
+compiled-frames fs = frames-after fs 0 ∙ rw zero-add
+
+pub compiled-length : (fs : List Form) → length (compiledText fs) ≡ length (planText (map frameOf fs)) + length (wholeLine (Frame.End (length fs)))
+unfolding compiledText
+compiled-length fs =
+    ap (λ (gs : List Frame). length (planText gs)) (compiled-frames fs)
+    ∙ ap length (text-snoc (map frameOf fs) (Frame.End (length fs)))
+    ∙ length-append (planText (map frameOf fs)) (wholeLine (Frame.End (length fs)))
+
+-- ---- what compiling is
+module _ (text : List ℕ) (room : ℕ) where
+  pub compile-long : tooLong text ≡ true → compile text room ≡ refusal 1 0 0 0
+  unfolding compile readSheet badAt badLength
+  compile-long e = rw (compile, readSheet, e) refl
+
+  pub compile-full : (fs : List Form) → readSheet text ≡ taken fs → room < length (compiledText fs) → compile text room ≡ refusal 9 0 0 0
+  unfolding compile
+  compile-full fs e h = rw (compile, e, lt-ltb _ _ h) refl
+
+  pub compile-fits : (fs : List Form) → readSheet text ≡ taken fs → length (compiledText fs) ≤ room → compile text room ≡ plan (compiledText fs)
+  unfolding compile
+  compile-fits fs e h = rw (compile, e, le-ltb _ _ h) refl
+
+  pub compile-refused : tooLong text ≡ false → (b : Refusal) → Read.Refused b ≡ readAs (framed text) → compile text room ≡ refusal (b .number) (b .line) (b .at) (b .length)
+  unfolding compile asFrom
+  compile-refused l b e = by-sheet (readSheet text) refl (e ∙ ap readAs (framed-is text l))
+    where
+      refusalIn : Read → Refusal
+      refusalIn (Read.Is n bytes) = b
+      refusalIn (Read.Refused r) = r
+
+      by-sheet : (s : Sheet) → readSheet text ≡ s → Read.Refused b ≡ readAs (asFrom 0 0 (linesOf text .whole) (linesOf text .tail) s) → compile text room ≡ refusal (b .number) (b .line) (b .at) (b .length)
+      by-sheet (taken fs) g e = let z : _≡_ {A = ℕ} 0 1 = cc in absurd (omega arith)
+      by-sheet (refused number line) g e =
+          let k : line - 0 ≡ line = omega arith in
+          let z : 0 + badAt line (linesOf text .whole) ≡ badAt line (linesOf text .whole) = omega arith in
+          let r : b ≡ refusalAs number line (badAt line (linesOf text .whole)) (badLength line (linesOf text .whole) (linesOf text .tail)) = rw (k, z) at (ap refusalIn e) in
+          rw (compile, g, r) refl
+
+  pub short : tooLong text ≡ false → linesIn text ≤ 64
+  unfolding tooLong linesIn
+  short e = ltb-false 64 _ (by-bytes (ltb 16448 (length text)) _ e)
+    where
+      by-bytes : (a b : Bool) → (a || b) ≡ false → b ≡ false
+      by-bytes true b e = let z : _≡_ {A = ℕ} 0 1 = cc in absurd (omega arith)
+      by-bytes false b e = e
+
+-- ---- a sheet that is taken
+pub record TakenAs (text : List ℕ) (n bytes : ℕ) : Type 0 where
+  pub forms : List Form
+  pub sheet : readSheet text ≡ taken forms
+  pub count : n ≡ length forms
+  pub size : bytes ≡ length (planText (map frameOf forms))
+  pub read : framesRead text ≡ map frameOf forms
+
+length-frames : (fs : List Form) → length (map frameOf fs) ≡ length fs
+length-frames [] = refl
+length-frames (f ∷ fs) = ap suc (length-frames fs)
+
+pub sheet-taken : (text : List ℕ) → tooLong text ≡ false → (n bytes : ℕ) → Read.Is n bytes ≡ readAs (framed text) → TakenAs text n bytes
+unfolding asFrom framed framesRead
+sheet-taken text l n bytes e = by-sheet (readSheet text) refl (framed-is text l)
+  where
+    countIn : Read → ℕ
+    countIn (Read.Is m b) = m
+    countIn (Read.Refused r) = 0
+
+    bytesIn : Read → ℕ
+    bytesIn (Read.Is m b) = b
+    bytesIn (Read.Refused r) = 0
+
+    by-sheet : (s : Sheet) → readSheet text ≡ s → framed text ≡ asFrom 0 0 (linesOf text .whole) (linesOf text .tail) s → TakenAs text n bytes
+    by-sheet (taken fs) g f =
+        let r : Read.Is n bytes ≡ readAs (frames (map frameOf fs)) = e ∙ ap readAs f in
+        record {
+          forms = fs;
+          sheet = g;
+          count = ap countIn r ∙ length-frames fs;
+          size = ap bytesIn r;
+          read = frames-read (linesOf text .whole) 0 0 first (linesOf text .tail) (map frameOf fs) f;
+        }
+    by-sheet (refused number line) g f = let r : Read.Is n bytes ≡ Read.Refused _ = e ∙ ap readAs f in let z : _≡_ {A = ℕ} 0 1 = cc in absurd (omega arith)
+
+-- ---- the frames that the rows hold are those that were stored
+rows-back : (fs : List Frame) → map frameIn (map rowOf fs) ≡ fs
+rows-back [] = refl
+rows-back (f ∷ fs) = rw (frame-in-row f, rows-back fs) refl
+
+length-rows : (fs : List Frame) → length (map rowOf fs) ≡ length fs
+length-rows [] = refl
+length-rows (f ∷ fs) = ap suc (length-rows fs)
+
+pub frames-kept : (rows₀ rows : List (List ℕ)) (fs : List Frame) (n : ℕ) → rows ≡ sets rows₀ 0 (map rowOf fs) → n ≡ length fs → n ≤ length rows₀ → framesIn rows n ≡ fs
+frames-kept rows₀ rows fs n e c h =
+    let m : n ≡ length (map rowOf fs) = c ∙ sym (length-rows fs) in
+    rw (e, sets-eq (map rowOf fs) rows₀ 0 (omega (arith, m)), m) (ap (map frameIn) (take-append-seam (map rowOf fs) _) ∙ rows-back fs)
+
+pub rows-places : (rows₀ rows : List (List ℕ)) (fs : List Frame) → rows ≡ sets rows₀ 0 (map rowOf fs) → length rows₀ ≡ 64 → length rows ≡ 64
+rows-places rows₀ rows fs e h = ap length e ∙ length-sets rows₀ 0 (map rowOf fs) ∙ h
+
+-- the plan in front of the buffer
+pub put-front : (buffer p : List ℕ) → length p ≤ length buffer → putAt buffer 0 p ≡ p ++ drop (length p) buffer
+put-front buffer p h = let z : 0 + length p ≡ length p = omega arith in put-inside buffer 0 p (omega arith) ∙ rw z refl
+
+-- ---- a sheet that was read with n frames
+module _ (text buffer : List ℕ) (l : tooLong text ≡ false) (n bytes end : ℕ) (e : Read.Is n bytes ≡ readAs (framed text)) (g : end ≡ length (wholeLine (Frame.End n))) where
+  t : TakenAs text n bytes
+  t = sheet-taken text l n bytes e
+
+  size : bytes + end ≡ length (compiledText (t .forms))
+  unfolding t
+  size =
+      let k : length (wholeLine (Frame.End n)) ≡ length (wholeLine (Frame.End (length (t .forms)))) = ap (λ (m : ℕ). length (wholeLine (Frame.End m))) (t .count) in
+      omega (arith, compiled-length (t .forms), t .size, g, k)
+
+  pub no-room : length buffer < bytes + end → compile text (length buffer) ≡ refusal 9 0 0 0
+  no-room h = compile-full text (length buffer) (t .forms) (t .sheet) (omega (arith, size))
+
+  module _ (rows₀ rows : List (List ℕ)) (stored : rows ≡ sets rows₀ 0 (map rowOf (framesRead text))) (places : length rows₀ ≡ 64) (most : n ≤ 64) (h : bytes + end ≤ length buffer) where
+    kept : planText (framesIn rows n ++ (Frame.End n ∷ [])) ≡ compiledText (t .forms)
+    unfolding compiledText
+    kept =
+        let k : n ≡ length (map frameOf (t .forms)) = t .count ∙ sym (length-frames (t .forms)) in
+        let f : framesIn rows n ≡ map frameOf (t .forms) = frames-kept rows₀ rows (map frameOf (t .forms)) n (stored ∙ ap (λ (fs : List Frame). sets rows₀ 0 (map rowOf fs)) (t .read)) k (omega (arith, places)) in
+        ap planText (ap (λ (fs : List Frame). fs ++ (Frame.End n ∷ [])) f ∙ ap (λ (m : ℕ). map frameOf (t .forms) ++ (Frame.End m ∷ [])) (t .count) ∙ sym (compiled-frames (t .forms)))
+
+    pub plan-fits : length (planText (framesIn rows n ++ (Frame.End n ∷ []))) ≤ length buffer
+    plan-fits = omega (arith, ap length kept, size)
+
+    pub plan-answer : (Answer.Plan (bytes + end) ≡ compiledAs (compile text (length buffer)))
+        × (putAt buffer 0 (planText (framesIn rows n ++ (Frame.End n ∷ []))) ≡ leftIn buffer (compile text (length buffer)))
+    plan-answer =
+        rw (compile-fits text (length buffer) (t .forms) (t .sheet) (omega (arith, size)))
+        (ap Answer.Plan size, ap (putAt buffer 0) kept ∙ put-front buffer (compiledText (t .forms)) (omega (arith, size)))
