@@ -1,0 +1,86 @@
+-- The frame of a cron line passes the load check: masks with a bit and only named ones, and a flag not set only with a full mask.
+use mathlib.Core.Bool.{Bool, true, false, cond, _&&_, _||_, false≢true}
+use mathlib.Core.List.{List, [], _∷_}
+use mathlib.Core.Path.{_≡_, refl}
+use Prim.Native.Nat.{ℕ, _+_, _≤_}
+use native.Mathlib.Omega.{arith}
+use borrow.Author.Tests.{leb-true, le-leb, eq-eqb}
+use lib.Dec.{leb, ltb, eqb}
+use Rattle.calendar.proofs.Every.{both-true}
+use Rattle.calendar.specs.Below.{within, anyOf, allOf}
+use Rattle.framed.proofs.Listed.{anything, listed}
+use Rattle.framed.specs.Framed.{cronFrame}
+use Rattle.masks.specs.Masks.{bit, maskFrom}
+use Rattle.plan.specs.Taken.{fullMask, maskGood, cronGood}
+use Rattle.sheet.specs.Form.{Element, one, range, Field, star, list, cron}
+use Rattle.sheet.specs.Meaning.{elementHas, fieldHas, restricted}
+use Rattle.sheet.specs.Range.{elementInRange, fieldInRange, inRange}
+use Rattle.demands.proofs.MaskGoods.{both, mask-good}
+
+-- a list is never empty
+abbrev pub fieldWritten : Field → Bool
+fieldWritten star = true
+fieldWritten (list es) = listed anything es
+
+module _ (low high : ℕ) where
+  -- a number that a field holds
+  record Held (f : Field) : Type 0 where
+    number : ℕ
+    from : low ≤ number
+    upto : number ≤ high
+    has : fieldHas f number ≡ true
+
+  first-held : (x : Element) (es : List Element) → elementInRange low high x ≡ true → Held (list (x ∷ es))
+  unfolding elementInRange fieldHas elementHas
+  first-held (one n) es r =
+      let p = both-true (leb low n) (leb n high) r in
+      record { number = n; from = leb-true low n (p .0); upto = leb-true n high (p .1); has = rw (eq-eqb n n refl) refl }
+  first-held (range a b) es r =
+      let p = both-true (within low high a) (within low high b && leb a b) r in
+      let q = both-true (leb low a) (leb a high) (p .0) in
+      let o = both-true (within low high b) (leb a b) (p .1) .1 in
+      record { number = a; from = leb-true low a (q .0); upto = leb-true a high (q .1); has = rw (le-leb a a (omega arith), o) refl }
+
+  held : (f : Field) → low ≤ high → fieldWritten f ≡ true → fieldInRange low high f ≡ true → Held f
+  unfolding fieldInRange fieldHas
+  held star l w r = record { number = low; from = omega arith; upto = l; has = refl }
+  held (list []) l w r = absurd (false≢true w)
+  held (list (x ∷ es)) l w r = first-held x es (both-true (elementInRange low high x) (allOf (elementInRange low high) es) r .0)
+
+  field-good : (f : Field) (k : ℕ) → low ≤ high → low + k ≡ high + 1 → fieldWritten f ≡ true → fieldInRange low high f ≡ true
+      → maskGood low high (maskFrom (fieldHas f) k low) ≡ true
+  field-good f k l e w r = let a = held f l w r in mask-good low high (fieldHas f) k e (a .number) (a .from) (a .upto) (a .has)
+
+-- `*` has every number
+unrestricted-full : (f : Field) (k low full : ℕ) → eqb (maskFrom (fieldHas star) k low) full ≡ true → (restricted f || eqb (maskFrom (fieldHas f) k low) full) ≡ true
+unrestricted-full star k low full e = e
+unrestricted-full (list es) k low full e = refl
+
+abbrev flagsOf : Bool → Bool → ℕ
+flagsOf a b = cond a 1 0 + cond b 2 0
+
+flags-good : (a b x y : Bool) → (a || x) ≡ true → (b || y) ≡ true → (ltb (flagsOf a b) 4 && ((bit (flagsOf a b) 0 || x) && (bit (flagsOf a b) 1 || y))) ≡ true
+flags-good true true x y e f = refl
+flags-good true false x y e f = f
+flags-good false true x y e f = both e refl
+flags-good false false x y e f = both e f
+
+module _ (m h d mo w : Field) (inside : inRange (cron m h d mo w) ≡ true) (written : allOf fieldWritten (m ∷ h ∷ d ∷ mo ∷ w ∷ []) ≡ true) where
+  pub cron-good : cronGood (cronFrame m h d mo w) ≡ true
+  unfolding cronGood cronFrame inRange maskFrom fieldHas
+  cron-good =
+      let r1 = both-true (fieldInRange 0 59 m) _ inside in
+      let r2 = both-true (fieldInRange 0 23 h) _ (r1 .1) in
+      let r3 = both-true (fieldInRange 1 31 d) _ (r2 .1) in
+      let r4 = both-true (fieldInRange 1 12 mo) _ (r3 .1) in
+      let w1 = both-true (fieldWritten m) _ written in
+      let w2 = both-true (fieldWritten h) _ (w1 .1) in
+      let w3 = both-true (fieldWritten d) _ (w2 .1) in
+      let w4 = both-true (fieldWritten mo) _ (w3 .1) in
+      let w5 = both-true (fieldWritten w) true (w4 .1) in
+      both (field-good 0 59 m 60 (omega arith) refl (w1 .0) (r1 .0))
+      (both (field-good 0 23 h 24 (omega arith) refl (w2 .0) (r2 .0))
+      (both (field-good 1 31 d 31 (omega arith) refl (w3 .0) (r3 .0))
+      (both (field-good 1 12 mo 12 (omega arith) refl (w4 .0) (r4 .0))
+      (both (field-good 0 6 w 7 (omega arith) refl (w5 .0) (r4 .1))
+      (flags-good (restricted d) (restricted w) _ _ (unrestricted-full d 31 1 (fullMask 1 31) refl) (unrestricted-full w 7 0 (fullMask 0 6) refl))))))
