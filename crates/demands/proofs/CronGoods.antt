@@ -7,20 +7,15 @@ use native.Mathlib.Omega.{arith}
 use borrow.Author.Tests.{leb-true, le-leb, eq-eqb}
 use lib.Dec.{leb, ltb, eqb}
 use Rattle.calendar.proofs.Every.{both-true}
-use Rattle.calendar.specs.Below.{within, anyOf, allOf}
-use Rattle.framed.proofs.Listed.{anything, listed}
+use Rattle.calendar.specs.Below.{within, allOf}
 use Rattle.framed.specs.Framed.{cronFrame}
 use Rattle.masks.specs.Masks.{bit, maskFrom}
 use Rattle.plan.specs.Taken.{fullMask, maskGood, cronGood}
 use Rattle.sheet.specs.Form.{Element, one, range, Field, star, list, cron}
 use Rattle.sheet.specs.Meaning.{elementHas, fieldHas, restricted}
 use Rattle.sheet.specs.Range.{elementInRange, fieldInRange, inRange}
+use Rattle.demands.proofs.Fields.{fieldWritten, fieldsWritten}
 use Rattle.demands.proofs.MaskGoods.{both, mask-good}
-
--- a list is never empty
-abbrev pub fieldWritten : Field → Bool
-fieldWritten star = true
-fieldWritten (list es) = listed anything es
 
 module _ (low high : ℕ) where
   -- a number that a field holds
@@ -65,7 +60,7 @@ flags-good true false x y e f = f
 flags-good false true x y e f = both e refl
 flags-good false false x y e f = both e f
 
-module _ (m h d mo w : Field) (inside : inRange (cron m h d mo w) ≡ true) (written : allOf fieldWritten (m ∷ h ∷ d ∷ mo ∷ w ∷ []) ≡ true) where
+module _ (m h d mo w : Field) (inside : inRange (cron m h d mo w) ≡ true) (written : fieldsWritten (cron m h d mo w) ≡ true) where
   pub cron-good : cronGood (cronFrame m h d mo w) ≡ true
   unfolding cronGood cronFrame inRange maskFrom fieldHas
   cron-good =

@@ -5,7 +5,7 @@ use mathlib.Core.Option.{Option, none, some}
 use mathlib.Core.Path.{_≡_, refl}
 use lib.Dec.{leb, ltb}
 use Rattle.calendar.proofs.Every.{both-true}
-use Rattle.calendar.specs.Below.{allOf}
+use Rattle.calendar.specs.Below.{within, allOf}
 use Rattle.sheet.specs.Form.{Time, Entry, Part, freq, interval, count, until, byDay, byMonthDay, bySetPos, Form, zone, change, cron, rule, extra, except}
 use Rattle.sheet.specs.Parts.{Given, givenOf}
 use Rattle.sheet.specs.Range.{entryInRange, dayNumberInRange, timeInRange, partInRange, inRange}
@@ -40,6 +40,7 @@ givenPasses test none = true
 givenPasses test (some a) = test a
 
 pub record Good (g : Given) : Type 0 where
+  pub interval : givenPasses (within 1 999) (g .interval) ≡ true
   pub count : givenPasses (leb 1) (g .count) ≡ true
   pub until : givenPasses timeInRange (g .until) ≡ true
   pub days : givenPasses (listed entryGood) (g .days) ≡ true
@@ -57,17 +58,17 @@ entries-good es = listed-by weekdayWritten entryInRange entryGood (λ e. both (w
 
 with-part : (p : Part) (ps : List Part) → partWritten p ≡ true → partInRange p ≡ true → Good (givenOf ps) → Good (givenOf (p ∷ ps))
 unfolding givenOf partInRange
-with-part (freq f) ps w r g = record { count = g .count; until = g .until; days = g .days; monthDays = g .monthDays; positions = g .positions }
-with-part (interval n) ps w r g = record { count = g .count; until = g .until; days = g .days; monthDays = g .monthDays; positions = g .positions }
-with-part (count n) ps w r g = record { count = both-true (leb 1 n) (leb n 9999) r .0; until = g .until; days = g .days; monthDays = g .monthDays; positions = g .positions }
-with-part (until t) ps w r g = record { count = g .count; until = r; days = g .days; monthDays = g .monthDays; positions = g .positions }
-with-part (byDay es) ps w r g = record { count = g .count; until = g .until; days = entries-good es w r; monthDays = g .monthDays; positions = g .positions }
-with-part (byMonthDay ns) ps w r g = record { count = g .count; until = g .until; days = g .days; monthDays = numbers-good ns w r; positions = g .positions }
-with-part (bySetPos ns) ps w r g = record { count = g .count; until = g .until; days = g .days; monthDays = g .monthDays; positions = numbers-good ns w r }
+with-part (freq f) ps w r g = record { interval = g .interval; count = g .count; until = g .until; days = g .days; monthDays = g .monthDays; positions = g .positions }
+with-part (interval n) ps w r g = record { interval = r; count = g .count; until = g .until; days = g .days; monthDays = g .monthDays; positions = g .positions }
+with-part (count n) ps w r g = record { interval = g .interval; count = both-true (leb 1 n) (leb n 9999) r .0; until = g .until; days = g .days; monthDays = g .monthDays; positions = g .positions }
+with-part (until t) ps w r g = record { interval = g .interval; count = g .count; until = r; days = g .days; monthDays = g .monthDays; positions = g .positions }
+with-part (byDay es) ps w r g = record { interval = g .interval; count = g .count; until = g .until; days = entries-good es w r; monthDays = g .monthDays; positions = g .positions }
+with-part (byMonthDay ns) ps w r g = record { interval = g .interval; count = g .count; until = g .until; days = g .days; monthDays = numbers-good ns w r; positions = g .positions }
+with-part (bySetPos ns) ps w r g = record { interval = g .interval; count = g .count; until = g .until; days = g .days; monthDays = g .monthDays; positions = numbers-good ns w r }
 
 given-good : (ps : List Part) → allOf partWritten ps ≡ true → allOf partInRange ps ≡ true → Good (givenOf ps)
 unfolding givenOf
-given-good [] w r = record { count = refl; until = refl; days = refl; monthDays = refl; positions = refl }
+given-good [] w r = record { interval = refl; count = refl; until = refl; days = refl; monthDays = refl; positions = refl }
 given-good (p ∷ ps) w r =
     let a = both-true (partWritten p) (allOf partWritten ps) w in
     let b = both-true (partInRange p) (allOf partInRange ps) r in
