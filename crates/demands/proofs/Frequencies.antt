@@ -28,7 +28,7 @@ use Rattle.sheet.specs.Range.{dayNumberInRange}
 use Rattle.sheet.specs.Words.{Signed}
 use Rattle.demands.proofs.MaskGoods.{both, not-zero}
 
-neither : (a b : Bool) → (a || b) ≡ false → (a ≡ false) × (b ≡ false)
+pub neither : (a b : Bool) → (a || b) ≡ false → (a ≡ false) × (b ≡ false)
 neither true b e = absurd (false≢true (sym e))
 neither false b e = (refl, e)
 

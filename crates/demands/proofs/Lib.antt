@@ -1,4 +1,4 @@
--- The frame of a sheet line that is taken passes the load check by itself.
+-- The frame of a sheet line that is taken passes the load check by itself; every compiled plan is taken.
 pub mod MaskGoods
 pub mod Fields
 pub mod CronGoods
@@ -6,3 +6,7 @@ pub mod Places
 pub mod Frequencies
 pub mod RuleGoods
 pub mod FrameGoods
+pub mod Compiled
+pub mod Read
+pub mod Standing
+pub mod Allowed
