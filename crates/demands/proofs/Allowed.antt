@@ -2,8 +2,8 @@
 use mathlib.Core.Bool.{Bool, true, false, not, _&&_}
 use mathlib.Core.List.{List, [], _∷_, map}
 use mathlib.Core.Option.{Option, none, some}
-use mathlib.Core.Path.{_≡_, refl, sym, ap, _∙_}
-use Prim.Native.Nat.{ℕ, _+_, _<_, _≤_}
+use mathlib.Core.Path.{_≡_, refl, ap, _∙_}
+use Prim.Native.Nat.{ℕ, _+_, _<_}
 use native.Mathlib.Omega.{arith}
 use borrow.Author.Tests.{lt-ltb}
 use lib.ListN.{length, length-map}
@@ -12,7 +12,6 @@ use Rattle.framed.specs.Framed.{frameOf}
 use Rattle.plan.proofs.Loading.{written-plan}
 use Rattle.plan.specs.Allowed.{allowedFrom, framesAllowed}
 use Rattle.plan.specs.Taken.{Before as Standing, taken as takenFrames, frameGood, place, numberGood, isEnd, load}
-use Rattle.plan.specs.Text.{planText}
 use Rattle.sheet.specs.Form.{Time, Shift, Form, zone, change, cron, rule, extra, except}
 use Rattle.sheet.specs.Place.{Before, start, zoned, lines, after}
 use Rattle.sheet.specs.Refusals.{Context, contextAfter, taken, readSheet}

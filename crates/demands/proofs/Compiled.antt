@@ -1,13 +1,13 @@
 -- The frames that a sheet is compiled to, and of which sheet.
 use mathlib.Core.Bool.{Bool, true, false}
 use mathlib.Core.List.{List, [], _∷_, _++_, map}
-use mathlib.Core.Path.{_≡_, refl, sym, ap, _∙_}
+use mathlib.Core.Path.{_≡_, refl, ap, _∙_}
 use Prim.Native.Nat.{ℕ, suc, _+_}
 use native.Mathlib.Nat.{add-zero, zero-add}
 use native.Mathlib.Omega.{arith}
 use lib.Dec.{ltb}
 use lib.ListN.{length}
-use Rattle.compile.specs.Compiled.{Compiled, plan, refusal, compiledFrames, compiledText, compile}
+use Rattle.compile.specs.Compiled.{plan, refusal, compiledFrames, compiledText, compile}
 use Rattle.framed.specs.Framed.{frameOf}
 use Rattle.lines.specs.Lines.{linesOf}
 use Rattle.plan.specs.declared.Frame.{Frame}

@@ -10,3 +10,7 @@ pub mod Compiled
 pub mod Read
 pub mod Standing
 pub mod Allowed
+pub mod Held
+pub mod Instants
+pub mod Answers
+pub mod Demand3

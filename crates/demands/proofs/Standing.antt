@@ -1,6 +1,5 @@
 -- A line in its place has its frame in its place.
-use mathlib.Core.Bool.{Bool, true, false, false≢true}
-use mathlib.Core.List.{List, [], _∷_}
+use mathlib.Core.Bool.{true, false≢true}
 use mathlib.Core.Option.{some}
 use mathlib.Core.Path.{_≡_, refl}
 use Prim.Native.Nat.{ℕ}
@@ -9,7 +8,7 @@ use Rattle.plan.specs.Taken.{Before as Standing, start as bare, zoned as zonedB
 use Rattle.sheet.specs.Form.{Form, zone, change, cron, rule, extra, except}
 use Rattle.sheet.specs.Place.{Before, start, zoned, lines, inPlace}
 use Rattle.sheet.specs.Range.{inRange}
-use Rattle.sheet.specs.Refusals.{Context, contextAfter, together, limitsKept, startOccurs, formRefusal}
+use Rattle.sheet.specs.Refusals.{Context, contextAfter, together, limitsKept, formRefusal}
 use Rattle.demands.proofs.Read.{passes}
 
 -- what the lines before a line leave, as the load check has it of their frames

@@ -1,1 +1,2 @@
--- No definitions of its own: the laws name those of the crates below.
+-- What the demands name beyond the definitions of the crates below.
+pub mod Meant
