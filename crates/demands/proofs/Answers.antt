@@ -4,18 +4,16 @@ use mathlib.Core.List.{List, map}
 use mathlib.Core.Path.{_≡_, ap, subst, _∙_}
 use Prim.Native.Nat.{ℕ}
 use lib.IntN.{ℤ}
-use Rattle.compile.specs.Compiled.{plan, compile}
 use Rattle.evandrusk.specs.Plans.{SignedInstant, NearestFound, NearestBy}
 use Rattle.evandrusk.specs.Plans.NearestFound.{found, none}
 use Rattle.evandrusk.specs.declared.answers.EvkFound.{EvkFound}
 use Rattle.framed.specs.Framed.{frameOf}
-use Rattle.plan.specs.Taken.{taken as takenFrames, load}
+use Rattle.plan.specs.Taken.{taken, load}
 use Rattle.sheet.specs.Form.{Form}
 use Rattle.sheet.specs.Meaning.{SheetInstant}
-use Rattle.sheet.specs.Refusals.{taken, readSheet}
 use Rattle.demands.specs.Meant.{MeantInstant}
 use Rattle.demands.proofs.Allowed.{compiled-taken}
-use Rattle.demands.proofs.Compiled.{CompiledOf, plan-of}
+use Rattle.demands.proofs.Compiled.{Source}
 use Rattle.demands.proofs.Instants.{plan-of-sheet, sheet-of-plan}
 
 -- the nearest of some instants is the nearest of the same instants
@@ -25,35 +23,38 @@ nearest-same before A B asked r to from (found z n e) =
     found z (record { is = to z (n .is); beyond = n .beyond; nearest = λ y b. n .nearest y (from y b) }) e
 nearest-same before A B asked r to from (none n e) = none (λ z b. n z (from z b)) e
 
-module _ (text : List ℕ) (fs : List Form) (e : readSheet text ≡ taken fs) (z : ℤ) where
-  text-means : SignedInstant (map frameOf fs) z → MeantInstant text z
-  text-means s = record { forms = fs; taken = e; inside = s .inside; is = sheet-of-plan text fs e (s .inside) (s .is); becomes = s .becomes }
+module _ (text p : List ℕ) (source : Source text p) where
+  abbrev fs : List Form
+  fs = source .forms
 
-  plan-means : MeantInstant text z → SignedInstant (map frameOf fs) z
-  plan-means m =
+  text-means : (z : ℤ) → SignedInstant (map frameOf fs) z → MeantInstant text z
+  text-means z s =
+      record {
+        forms = fs;
+        taken = source .sheet;
+        inside = s .inside;
+        is = sheet-of-plan text fs (source .sheet) (s .inside) (s .is);
+        becomes = s .becomes;
+      }
+
+  plan-means : (z : ℤ) → MeantInstant text z → SignedInstant (map frameOf fs) z
+  plan-means z m =
       let same : m .forms ≡ fs = cc in
       record {
         inside = m .inside;
-        is = plan-of-sheet text fs e (m .inside) (subst (λ (gs : List Form). SheetInstant gs (m .inside)) same (m .is));
+        is = plan-of-sheet text fs (source .sheet) (m .inside) (subst (λ (gs : List Form). SheetInstant gs (m .inside)) same (m .is));
         becomes = m .becomes;
       }
 
-module _ (before : ℤ → ℤ → Bool) (text : List ℕ) (room : ℕ) (p : List ℕ) (compiled : compile text room ≡ plan p) (asked : ℤ) (r : EvkFound) where
-  abbrev source : CompiledOf text p
-  source = plan-of text room p compiled
+  loads : load p ≡ taken (map frameOf fs)
+  loads = ap load (source .written) ∙ compiled-taken text fs (source .sheet)
 
-  loads : load p ≡ takenFrames (map frameOf (source .forms))
-  loads = ap load (source .written) ∙ compiled-taken text (source .forms) (source .sheet)
+  -- either direction of time
+  module _ (before : ℤ → ℤ → Bool) (asked : ℤ) (r : EvkFound) where
+    pub answer-means : NearestBy before (load p) asked r → NearestFound before (MeantInstant text) asked r
+    unfolding NearestBy
+    answer-means a = nearest-same before (SignedInstant (map frameOf fs)) (MeantInstant text) asked r text-means plan-means (rw loads at a)
 
-  pub answer-means : NearestBy before (load p) asked r → NearestFound before (MeantInstant text) asked r
-  unfolding NearestBy
-  answer-means a =
-      nearest-same before (SignedInstant (map frameOf (source .forms))) (MeantInstant text) asked r (text-means text (source .forms) (source .sheet))
-      (plan-means text (source .forms) (source .sheet)) (rw loads at a)
-
-  pub meant-answer : NearestFound before (MeantInstant text) asked r → NearestBy before (load p) asked r
-  unfolding NearestBy
-  meant-answer n =
-      rw loads
-      (nearest-same before (MeantInstant text) (SignedInstant (map frameOf (source .forms))) asked r (plan-means text (source .forms) (source .sheet))
-      (text-means text (source .forms) (source .sheet)) n)
+    pub meant-answer : NearestFound before (MeantInstant text) asked r → NearestBy before (load p) asked r
+    unfolding NearestBy
+    meant-answer n = rw loads (nearest-same before (MeantInstant text) (SignedInstant (map frameOf fs)) asked r plan-means text-means n)

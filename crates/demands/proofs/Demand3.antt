@@ -9,22 +9,23 @@ use Rattle.evandrusk.specs.Plans.{NearestFound, NextAnswer, PreviousAnswer, lat
 use Rattle.evandrusk.specs.declared.answers.EvkFound.{EvkFound}
 use Rattle.demands.specs.Meant.{MeantInstant}
 use Rattle.demands.proofs.Answers.{answer-means, meant-answer}
+use Rattle.demands.proofs.Compiled.{plan-source}
 
 module _ (text : List ℕ) (room : ℕ) (p : List ℕ) (compiled : compile text room ≡ plan p) (asked : ℤ) (r : EvkFound) where
   -- what meets the promise of `evk_next` is the nearest later instant of the text's meaning, or 11 where there is none; and nothing else is
   pub next-means : NextAnswer p asked r → NearestFound ltZ (MeantInstant text) asked r
   unfolding NextAnswer
-  next-means = answer-means ltZ text room p compiled asked r
+  next-means = answer-means text p (plan-source text room p compiled) ltZ asked r
 
   pub next-meant : NearestFound ltZ (MeantInstant text) asked r → NextAnswer p asked r
   unfolding NextAnswer
-  next-meant = meant-answer ltZ text room p compiled asked r
+  next-meant = meant-answer text p (plan-source text room p compiled) ltZ asked r
 
   -- and of `evk_previous` the nearest earlier one
   pub previous-means : PreviousAnswer p asked r → NearestFound later (MeantInstant text) asked r
   unfolding PreviousAnswer
-  previous-means = answer-means later text room p compiled asked r
+  previous-means = answer-means text p (plan-source text room p compiled) later asked r
 
   pub previous-meant : NearestFound later (MeantInstant text) asked r → PreviousAnswer p asked r
   unfolding PreviousAnswer
-  previous-meant = meant-answer later text room p compiled asked r
+  previous-meant = meant-answer text p (plan-source text room p compiled) later asked r

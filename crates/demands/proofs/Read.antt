@@ -24,81 +24,76 @@ abbrev pub Lines : Context → List Form → Type 0
 Lines c [] = Unit {0}
 Lines c (f ∷ fs) = Line c f × Lines (contextAfter c f) fs
 
--- the forms of some whole lines after n others
+-- where nothing is refused a condition holds, and those after it refuse nothing
+pub passes : (b : Bool) (n x : ℕ) → cond (not b) (suc n) x ≡ 0 → (b ≡ true) × (x ≡ 0)
+passes true n x e = (refl, e)
+passes false n x e = absurd (omega arith)
+
+-- the forms of some whole lines after n others, where they are taken
 record Read (n : ℕ) (c : Context) (whole : List (List ℕ)) (fs : List Form) : Type 0 where
   each : Lines c fs
   count : length fs ≡ length whole
   one : 0 < n + length fs
 
--- a condition of which the refusal number is not 0
-pub passes : (b : Bool) (n x : ℕ) → cond (not b) (suc n) x ≡ 0 → (b ≡ true) × (x ≡ 0)
-passes true n x e = (refl, e)
-passes false n x e = absurd (omega arith)
+abbrev Reads : ℕ → Context → List (List ℕ) → Sheet → Type 0
+Reads n c whole (taken fs) = Read n c whole fs
+Reads n c whole (refused k at) = Unit {0}
 
-not-taken : {A : Type 0} (n k : ℕ) (fs : List Form) → refused n k ≡ taken fs → A
-not-taken n k fs e = let z : _≡_ {A = ℕ} 0 1 = cc in absurd (omega arith)
-
-module _ (n : ℕ) (c : Context) (fs : List Form) where
+module _ (n : ℕ) (c : Context) where
   -- the two tests of the sheet's end
-  at-end : (a b : Bool) → eqb n 0 ≡ b → cond a (refused 2 (n + 1)) (cond b (refused 4 1) (taken [])) ≡ taken fs → Read n c [] fs
-  at-end true b z e = not-taken 2 (n + 1) fs e
-  at-end false true z e = not-taken 4 1 fs e
-  at-end false false z e =
-      let more : n ≡ 0 → ⊥ = eqb-false n 0 z in
-      let no-forms : [] ≡ fs = cc in
-      subst (λ (gs : List Form). Read n c [] gs) no-forms (record { each = tt; count = refl; one = omega arith })
+  at-end : (a b : Bool) → eqb n 0 ≡ b → Reads n c [] (cond a (refused 2 (n + 1)) (cond b (refused 4 1) (taken [])))
+  at-end true b z = tt
+  at-end false true z = tt
+  at-end false false z = let more : n ≡ 0 → ⊥ = eqb-false n 0 z in record { each = tt; count = refl; one = omega arith }
 
   module _ (line : List ℕ) (more : List (List ℕ)) (tail : List ℕ) where
-    abbrev onRest : Form → Sheet → Sheet
-    onRest f (taken gs) = taken (f ∷ gs)
-    onRest f (refused k at) = refused k at
-
-    abbrev onTest : Form → Bool → Sheet
-    onTest f t = elim t [ true ↦ onRest f (readFrom (n + 1) (contextAfter c f) more tail) | false ↦ refused (lineRefusal c line) (n + 1) ]
-
-    abbrev onForm : Option Form → Sheet
-    onForm o = elim o [ none ↦ refused (lineRefusal c line) (n + 1) | some f ↦ onTest f (eqb (lineRefusal c line) 0) ]
-
     line-fine : (f : Form) → formOf line ≡ some f → lineRefusal c line ≡ 0 → formRefusal c f ≡ 0
     unfolding lineRefusal formRefusalOr3
     line-fine f o e = rw o at (passes (bytesGood line) 1 _ e .1)
 
-    -- the other lines are read as said
-    abbrev Others : Type 0
-    Others = (d : Context) (gs : List Form) → readFrom (n + 1) d more tail ≡ taken gs → Read (n + 1) d more gs
+    abbrev onRest : Form → Sheet → Sheet
+    onRest f (taken gs) = taken (f ∷ gs)
+    onRest f (refused k at) = refused k at
 
-    on-rest : (f : Form) (s : Sheet) → Line c f → readFrom (n + 1) (contextAfter c f) more tail ≡ s → Others → onRest f s ≡ taken fs → Read n c (line ∷ more) fs
-    on-rest f (taken gs) l s others e =
-        let r = others (contextAfter c f) gs s in
-        let first : f ∷ gs ≡ fs = cc in
-        subst (λ (hs : List Form). Read n c (line ∷ more) hs) first (record { each = (l, r .each); count = ap suc (r .count); one = omega arith })
-    on-rest f (refused k at) l s others e = not-taken k at fs e
+    on-rest : (f : Form) (s : Sheet) → Line c f → Reads (n + 1) (contextAfter c f) more s → Reads n c (line ∷ more) (onRest f s)
+    on-rest f (taken gs) l r = record { each = (l, r .each); count = ap suc (r .count); one = omega arith }
+    on-rest f (refused k at) l r = tt
 
-    on-test : (f : Form) (t : Bool) → formOf line ≡ some f → eqb (lineRefusal c line) 0 ≡ t → Others → onTest f t ≡ taken fs → Read n c (line ∷ more) fs
-    on-test f true o t others e =
-        on-rest f (readFrom (n + 1) (contextAfter c f) more tail)
-        (record { bytes = line; form = o; fine = line-fine f o (eqb-true (lineRefusal c line) 0 t) })
-        refl others e
-    on-test f false o t others e = not-taken (lineRefusal c line) (n + 1) fs e
+    abbrev rest : Context → Sheet
+    rest d = readFrom (n + 1) d more tail
 
-    on-form : (o : Option Form) → formOf line ≡ o → Others → onForm o ≡ taken fs → Read n c (line ∷ more) fs
-    on-form none o others e = not-taken (lineRefusal c line) (n + 1) fs e
-    on-form (some f) o others e = on-test f (eqb (lineRefusal c line) 0) o refl others e
+    abbrev onTest : Form → Bool → Sheet
+    onTest f t = elim t [ true ↦ onRest f (rest (contextAfter c f)) | false ↦ refused (lineRefusal c line) (n + 1) ]
 
-read : (whole : List (List ℕ)) (n : ℕ) (c : Context) (tail : List ℕ) (fs : List Form) → readFrom n c whole tail ≡ taken fs → Read n c whole fs
+    on-test : (f : Form) (t : Bool) → formOf line ≡ some f → eqb (lineRefusal c line) 0 ≡ t → Reads (n + 1) (contextAfter c f) more (rest (contextAfter c f))
+        → Reads n c (line ∷ more) (onTest f t)
+    on-test f true o t others =
+        on-rest f (rest (contextAfter c f)) (record { bytes = line; form = o; fine = line-fine f o (eqb-true (lineRefusal c line) 0 t) }) others
+    on-test f false o t others = tt
+
+    on-form : (o : Option Form) → formOf line ≡ o → ((d : Context) → Reads (n + 1) d more (rest d))
+        → Reads n c (line ∷ more) (elim o [ none ↦ refused (lineRefusal c line) (n + 1) | some f ↦ onTest f (eqb (lineRefusal c line) 0) ])
+    on-form none o others = tt
+    on-form (some f) o others = on-test f (eqb (lineRefusal c line) 0) o refl (others (contextAfter c f))
+
+reads : (whole : List (List ℕ)) (n : ℕ) (c : Context) (tail : List ℕ) → Reads n c whole (readFrom n c whole tail)
 unfolding readFrom
-read [] n c tail fs e = at-end n c fs (ltb 0 (length tail)) (eqb n 0) refl e
-read (line ∷ more) n c tail fs e = on-form n c fs line more tail (formOf line) refl (λ d gs. read more (n + 1) d tail gs) e
+reads [] n c tail = at-end n c (ltb 0 (length tail)) (eqb n 0) refl
+reads (line ∷ more) n c tail = on-form n c line more tail (formOf line) refl (λ d. reads more (n + 1) d tail)
 
 -- before the first line
 abbrev pub first : Context
 first = record { before = start; low = 0; offset = 0 }
 
--- what a sheet that is taken has: at least one line, at most 64, nothing wrong with any
+-- a sheet that is taken has at least one line, at most 64, and nothing is wrong with any
 pub record TakenSheet (fs : List Form) : Type 0 where
   pub each : Lines first fs
   pub least : 0 < length fs
   pub most : length fs ≤ 64
+
+abbrev Sound : Sheet → Type 0
+Sound (taken fs) = TakenSheet fs
+Sound (refused k at) = Unit {0}
 
 short : (text : List ℕ) → tooLong text ≡ false → length (linesOf text .whole) ≤ 64
 unfolding tooLong
@@ -107,13 +102,18 @@ short text e =
     let lines : ℕ = length (r .whole) + cond (eqb (length (r .tail)) 0) 0 1 in
     omega (arith, ltb-false 64 lines (neither (ltb 16448 (length text)) (ltb 64 lines) e .1))
 
-by-length : (text : List ℕ) (fs : List Form) (t : Bool) → tooLong text ≡ t
-    → elim t [ true ↦ refused 1 0 | false ↦ readFrom 0 first (linesOf text .whole) (linesOf text .tail) ] ≡ taken fs → TakenSheet fs
-by-length text fs true t e = not-taken 1 0 fs e
-by-length text fs false t e =
-    let r = read (linesOf text .whole) 0 first (linesOf text .tail) fs e in
-    record { each = r .each; least = omega (arith, r .one); most = omega (arith, r .count, short text t) }
+sound : (whole : List (List ℕ)) (s : Sheet) → length whole ≤ 64 → Reads 0 first whole s → Sound s
+sound whole (taken fs) h r = record { each = r .each; least = omega (arith, r .one); most = omega (arith, r .count) }
+sound whole (refused k at) h r = tt
 
-pub taken-sheet : (text : List ℕ) (fs : List Form) → readSheet text ≡ taken fs → TakenSheet fs
-unfolding readSheet
-taken-sheet text fs e = by-length text fs (tooLong text) refl e
+module _ (text : List ℕ) where
+  abbrev lines : Sheet
+  lines = readFrom 0 first (linesOf text .whole) (linesOf text .tail)
+
+  by-length : (t : Bool) → tooLong text ≡ t → Sound (elim t [ true ↦ refused 1 0 | false ↦ lines ])
+  by-length true t = tt
+  by-length false t = sound (linesOf text .whole) lines (short text t) (reads (linesOf text .whole) 0 first (linesOf text .tail))
+
+  pub taken-sheet : (fs : List Form) → readSheet text ≡ taken fs → TakenSheet fs
+  unfolding readSheet
+  taken-sheet fs e = subst Sound e (by-length (tooLong text) refl)
