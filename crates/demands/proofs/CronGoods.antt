@@ -8,13 +8,13 @@ use borrow.Author.Tests.{leb-true, le-leb, eq-eqb}
 use lib.Dec.{leb, ltb, eqb}
 use Rattle.calendar.proofs.Every.{both-true}
 use Rattle.calendar.specs.Below.{within, allOf}
+use Rattle.framed.proofs.Goods.{fieldWritten, written}
 use Rattle.framed.specs.Framed.{cronFrame}
 use Rattle.masks.specs.Masks.{bit, maskFrom}
 use Rattle.plan.specs.Taken.{fullMask, maskGood, cronGood}
 use Rattle.sheet.specs.Form.{Element, one, range, Field, star, list, cron}
 use Rattle.sheet.specs.Meaning.{elementHas, fieldHas, restricted}
 use Rattle.sheet.specs.Range.{elementInRange, fieldInRange, inRange}
-use Rattle.demands.proofs.Fields.{fieldWritten, fieldsWritten}
 use Rattle.demands.proofs.MaskGoods.{both, mask-good}
 
 module _ (low high : ℕ) where
@@ -60,7 +60,7 @@ flags-good true false x y e f = f
 flags-good false true x y e f = both e refl
 flags-good false false x y e f = both e f
 
-module _ (m h d mo w : Field) (inside : inRange (cron m h d mo w) ≡ true) (written : fieldsWritten (cron m h d mo w) ≡ true) where
+module _ (m h d mo w : Field) (inside : inRange (cron m h d mo w) ≡ true) (lists : written (cron m h d mo w) ≡ true) where
   pub cron-good : cronGood (cronFrame m h d mo w) ≡ true
   unfolding cronGood cronFrame inRange maskFrom fieldHas
   cron-good =
@@ -68,7 +68,7 @@ module _ (m h d mo w : Field) (inside : inRange (cron m h d mo w) ≡ true) (wri
       let r2 = both-true (fieldInRange 0 23 h) _ (r1 .1) in
       let r3 = both-true (fieldInRange 1 31 d) _ (r2 .1) in
       let r4 = both-true (fieldInRange 1 12 mo) _ (r3 .1) in
-      let w1 = both-true (fieldWritten m) _ written in
+      let w1 = both-true (fieldWritten m) _ lists in
       let w2 = both-true (fieldWritten h) _ (w1 .1) in
       let w3 = both-true (fieldWritten d) _ (w2 .1) in
       let w4 = both-true (fieldWritten mo) _ (w3 .1) in

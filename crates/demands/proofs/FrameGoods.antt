@@ -21,7 +21,6 @@ use Rattle.sheet.specs.Range.{timeInRange, minuteOf, instantOfTime, shiftMinute
 use Rattle.sheet.specs.Refusals.{Context, formRefusal}
 use Rattle.zone.specs.Zone.{bias, offsetInRange, leastOffset, greatestOffset, inWindow}
 use Rattle.demands.proofs.CronGoods.{cron-good}
-use Rattle.demands.proofs.Fields.{fieldsWritten, fields-written}
 use Rattle.demands.proofs.MaskGoods.{both}
 use Rattle.demands.proofs.RuleGoods.{rule-frame-good}
 
@@ -44,20 +43,19 @@ instant-good t e = let h = minute-in-window t e in inside bias (bias + windowLas
 minute-good : (t : Time) → timeInRange t ≡ true → inWindow (minuteOf t) ≡ true
 minute-good t e = lt-ltb (minuteOf t) windowMinutes (minute-in-window t e)
 
--- `written` says nothing of cron fields: one with an empty list would have a mask of 0
-pub frame-good : (c : Context) (f : Form) → formRefusal c f ≡ 0 → written f ≡ true → fieldsWritten f ≡ true → frameGood (frameOf f) ≡ true
+pub frame-good : (c : Context) (f : Form) → formRefusal c f ≡ 0 → written f ≡ true → frameGood (frameOf f) ≡ true
 unfolding frameGood frameOf inRange
-frame-good c (zone s) e w v = offset-good s (taken c (zone s) e .range)
-frame-good c (change t s) e w v =
+frame-good c (zone s) e w = offset-good s (taken c (zone s) e .range)
+frame-good c (change t s) e w =
     let p = both-true (timeInRange t) (shiftInRange s) (taken c (change t s) e .range) in both (instant-good t (p .0)) (offset-good s (p .1))
-frame-good c (cron m h d mo wd) e w v = cron-good m h d mo wd (taken c (cron m h d mo wd) e .range) v
-frame-good c (rule t ps) e w v = let a = taken c (rule t ps) e in rule-frame-good t ps (a .range) (a .parts) (a .start) w
-frame-good c (extra t) e w v = minute-good t (taken c (extra t) e .range)
-frame-good c (except t) e w v = minute-good t (taken c (except t) e .range)
+frame-good c (cron m h d mo wd) e w = cron-good m h d mo wd (taken c (cron m h d mo wd) e .range) w
+frame-good c (rule t ps) e w = let a = taken c (rule t ps) e in rule-frame-good t ps (a .range) (a .parts) (a .start) w
+frame-good c (extra t) e w = minute-good t (taken c (extra t) e .range)
+frame-good c (except t) e w = minute-good t (taken c (except t) e .range)
 
 -- the form of a line's bytes
 pub line-frame-good : (line : List ℕ) (f : Form) → formOf line ≡ some f → (c : Context) → formRefusal c f ≡ 0 → frameGood (frameOf f) ≡ true
-line-frame-good line f e c z = frame-good c f z (form-written line f e) (fields-written line f e)
+line-frame-good line f e c z = frame-good c f z (form-written line f e)
 
 pub frame-not-end : (f : Form) → isEnd (frameOf f) ≡ false
 unfolding frameOf

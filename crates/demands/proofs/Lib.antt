@@ -1,6 +1,5 @@
 -- The frame of a sheet line that is taken passes the load check by itself; every compiled plan is taken, and means what its sheet's text means.
 pub mod MaskGoods
-pub mod Fields
 pub mod CronGoods
 pub mod Places
 pub mod Frequencies

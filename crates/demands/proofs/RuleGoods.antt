@@ -1,15 +1,14 @@
 -- The frame of a rule that is taken passes the load check.
-use mathlib.Core.Bool.{Bool, true, false, cond, not, _&&_, false≢true}
+use mathlib.Core.Bool.{Bool, true, false, not, _&&_, false≢true}
 use mathlib.Core.List.{List}
 use mathlib.Core.Option.{Option, none, some, Option·getD}
 use mathlib.Core.Path.{_≡_, refl, _∙_}
-use Prim.Native.Nat.{ℕ, _+_, _-_, _*_, _/_, _%_, _<_, _≤_}
+use Prim.Native.Nat.{ℕ, _-_, _/_, _<_, _≤_}
 use native.Mathlib.Omega.{arith}
 use borrow.Author.Tests.{lt-ltb, le-ltb, le-leb, leb-true, not-true}
-use lib.Dec.{ltb}
 use Rattle.calendar.proofs.Every.{both-true}
 use Rattle.calendar.specs.Below.{within, allOf}
-use Rattle.calendar.specs.Window.{dayMinutes, windowDays, windowMinutes, windowLast}
+use Rattle.calendar.specs.Window.{dayMinutes, windowDays, windowMinutes}
 use Rattle.days.proofs.Nths.{nth-lies}
 use Rattle.days.specs.Search.{nthFrom}
 use Rattle.framed.proofs.Days.{frame-framed, rule-occurs}

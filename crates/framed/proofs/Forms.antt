@@ -7,11 +7,11 @@ use Prim.Native.Nat.{ℕ, _-_}
 use lib.Dec.{ltb, eqb}
 use lib.ListN.{length, take, drop}
 use Rattle.calendar.specs.Below.{allOf}
-use Rattle.lines.specs.Bytes.{byte}
+use Rattle.lines.specs.Bytes.{bytes, byte}
 use Rattle.masks.proofs.Bits.{decided}
-use Rattle.sheet.specs.Form.{Time, timeOf, Shift, shiftOf, Field, fieldOf, ordinalEntry, weekdayWords, entryOf, Part, interval, count, until, byDay, byMonthDay, bySetPos, frequencyAt, frequencyWords, partWords, partBy, valueOf, named, partOf, Form, zone, extra, except, formBy, changeBy, changeOf, cronOf, ruleBy, ruleOf, tagged, formOf}
-use Rattle.sheet.specs.Words.{wordIn, numberOf, Signed, signedOf, pieces, eachOf}
-use Rattle.framed.proofs.Goods.{givenPasses, weekdayWritten, partWritten, written}
+use Rattle.sheet.specs.Form.{Time, timeOf, Shift, shiftOf, Element, elementOf, Field, star, list, fieldOf, ordinalEntry, weekdayWords, entryOf, Part, interval, count, until, byDay, byMonthDay, bySetPos, frequencyAt, frequencyWords, partWords, partBy, valueOf, named, partOf, Form, zone, extra, except, formBy, changeBy, changeOf, cronOf, ruleBy, ruleOf, tagged, formOf}
+use Rattle.sheet.specs.Words.{sameBytes, wordIn, numberOf, Signed, signedOf, pieces, eachOf}
+use Rattle.framed.proofs.Goods.{givenPasses, weekdayWritten, partWritten, fieldWritten, written}
 use Rattle.framed.proofs.Listed.{anything, listed}
 use Rattle.framed.proofs.Passing.{anything-passes, cond-passes, all-pass, pieces-pass}
 
@@ -72,6 +72,22 @@ part-of-written : (s : List ℕ) → givenPasses partWritten (partOf s) ≡ true
 unfolding partOf
 part-of-written s = named-written (pieces (byte "=") s)
 
+-- ---- cron fields
+abbrev listOf : Option (List Element) → Option Field
+listOf none = none
+listOf (some es) = some (list es)
+
+elements-written : (o : Option (List Element)) → givenPasses (listed anything) o ≡ true → givenPasses fieldWritten (listOf o) ≡ true
+elements-written none e = refl
+elements-written (some es) e = e
+
+field-written : (s : List ℕ) → givenPasses fieldWritten (fieldOf s) ≡ true
+unfolding fieldOf
+field-written s =
+    let es : Option (List Element) = eachOf elementOf (pieces (byte ",") s) in
+    cond-passes fieldWritten (sameBytes s (bytes "*")) (some star) (listOf es) refl
+    (elements-written es (pieces-pass anything elementOf (λ e. anything-passes (elementOf e)) (byte ",") s))
+
 -- ---- lines
 plain-written : {A : Type 0} (form : A → Form) (o : Option A) → ((a : A) → written (form a) ≡ true) → givenPasses written (formBy form o) ≡ true
 unfolding formBy
@@ -91,16 +107,16 @@ change-written (t ∷ []) = refl
 change-written (t ∷ s ∷ []) = change-by-written (timeOf t) (shiftOf s)
 change-written (t ∷ s ∷ other ∷ more) = refl
 
-cron-written : (fs : Option (List Field)) → givenPasses written (cronOf fs) ≡ true
+cron-written : (fs : Option (List Field)) → givenPasses (allOf fieldWritten) fs ≡ true → givenPasses written (cronOf fs) ≡ true
 unfolding cronOf
-cron-written none = refl
-cron-written (some []) = refl
-cron-written (some (a ∷ [])) = refl
-cron-written (some (a ∷ b ∷ [])) = refl
-cron-written (some (a ∷ b ∷ c ∷ [])) = refl
-cron-written (some (a ∷ b ∷ c ∷ d ∷ [])) = refl
-cron-written (some (a ∷ b ∷ c ∷ d ∷ e ∷ [])) = refl
-cron-written (some (a ∷ b ∷ c ∷ d ∷ e ∷ f ∷ more)) = refl
+cron-written none w = refl
+cron-written (some []) w = refl
+cron-written (some (a ∷ [])) w = refl
+cron-written (some (a ∷ b ∷ [])) w = refl
+cron-written (some (a ∷ b ∷ c ∷ [])) w = refl
+cron-written (some (a ∷ b ∷ c ∷ d ∷ [])) w = refl
+cron-written (some (a ∷ b ∷ c ∷ d ∷ e ∷ [])) w = w
+cron-written (some (a ∷ b ∷ c ∷ d ∷ e ∷ f ∷ more)) w = refl
 
 rule-by-written : (t : Option Time) (ps : Option (List Part)) → givenPasses (allOf partWritten) ps ≡ true → givenPasses written (ruleBy t ps) ≡ true
 unfolding ruleBy
@@ -120,7 +136,8 @@ unfolding tagged
 tagged-written tag s =
     cond-passes written (eqb tag (byte "Z")) _ _ (plain-written zone (shiftOf s) (λ a. refl))
     (cond-passes written (eqb tag (byte "T")) _ _ (change-written (pieces (byte " ") s))
-    (cond-passes written (eqb tag (byte "C")) _ _ (cron-written (eachOf fieldOf (pieces (byte " ") s)))
+    (cond-passes written (eqb tag (byte "C")) _ _
+    (cron-written (eachOf fieldOf (pieces (byte " ") s)) (all-pass fieldWritten fieldOf field-written (pieces (byte " ") s)))
     (cond-passes written (eqb tag (byte "R")) _ _ (rule-written (pieces (byte " ") s))
     (cond-passes written (eqb tag (byte "D")) _ _ (plain-written extra (timeOf s) (λ t. refl))
     (cond-passes written (eqb tag (byte "X")) _ _ (plain-written except (timeOf s) (λ t. refl)) refl)))))

@@ -1,4 +1,4 @@
--- What the laws ask of the parts of a rule: numbers in range, and lists as they can be written.
+-- What the laws ask of cron fields and of the parts of a rule: numbers in range, and lists as they can be written.
 use mathlib.Core.Bool.{Bool, true, _&&_}
 use mathlib.Core.List.{List, [], _∷_}
 use mathlib.Core.Option.{Option, none, some}
@@ -6,7 +6,7 @@ use mathlib.Core.Path.{_≡_, refl}
 use lib.Dec.{leb, ltb}
 use Rattle.calendar.proofs.Every.{both-true}
 use Rattle.calendar.specs.Below.{within, allOf}
-use Rattle.sheet.specs.Form.{Time, Entry, Part, freq, interval, count, until, byDay, byMonthDay, bySetPos, Form, zone, change, cron, rule, extra, except}
+use Rattle.sheet.specs.Form.{Time, Field, star, list, Entry, Part, freq, interval, count, until, byDay, byMonthDay, bySetPos, Form, zone, change, cron, rule, extra, except}
 use Rattle.sheet.specs.Parts.{Given, givenOf}
 use Rattle.sheet.specs.Range.{entryInRange, dayNumberInRange, timeInRange, partInRange, inRange}
 use Rattle.sheet.specs.Words.{Signed}
@@ -26,10 +26,14 @@ partWritten (byDay es) = listed weekdayWritten es
 partWritten (byMonthDay ns) = listed anything ns
 partWritten (bySetPos ns) = listed anything ns
 
+abbrev pub fieldWritten : Field → Bool
+fieldWritten star = true
+fieldWritten (list es) = listed anything es
+
 abbrev pub written : Form → Bool
 written (zone s) = true
 written (change t s) = true
-written (cron mi h d mo w) = true
+written (cron mi h d mo w) = allOf fieldWritten (mi ∷ h ∷ d ∷ mo ∷ w ∷ [])
 written (rule t ps) = allOf partWritten ps
 written (extra t) = true
 written (except t) = true
