@@ -1,5 +1,5 @@
 -- A sheet that is taken, line by line.
-use mathlib.Core.Bool.{Bool, true, false, cond, not}
+use mathlib.Core.Bool.{Bool, true, false, cond}
 use mathlib.Core.List.{List, [], _∷_}
 use mathlib.Core.Option.{Option, none, some}
 use mathlib.Core.Path.{_≡_, refl, ap, subst}
@@ -8,6 +8,7 @@ use native.Mathlib.Omega.{arith}
 use borrow.Author.Tests.{eqb-true, eqb-false, ltb-false}
 use lib.Dec.{ltb, eqb}
 use lib.ListN.{length}
+use Rattle.framed.proofs.Lines.{fine}
 use Rattle.lines.specs.Lines.{linesOf}
 use Rattle.sheet.specs.Form.{Form, formOf}
 use Rattle.sheet.specs.Place.{start}
@@ -23,11 +24,6 @@ pub record Line (c : Context) (f : Form) : Type 0 where
 abbrev pub Lines : Context → List Form → Type 0
 Lines c [] = Unit {0}
 Lines c (f ∷ fs) = Line c f × Lines (contextAfter c f) fs
-
--- where nothing is refused a condition holds, and those after it refuse nothing
-pub passes : (b : Bool) (n x : ℕ) → cond (not b) (suc n) x ≡ 0 → (b ≡ true) × (x ≡ 0)
-passes true n x e = (refl, e)
-passes false n x e = absurd (omega arith)
 
 -- the forms of some whole lines after n others, where they are taken
 record Read (n : ℕ) (c : Context) (whole : List (List ℕ)) (fs : List Form) : Type 0 where
@@ -49,7 +45,7 @@ module _ (n : ℕ) (c : Context) where
   module _ (line : List ℕ) (more : List (List ℕ)) (tail : List ℕ) where
     line-fine : (f : Form) → formOf line ≡ some f → lineRefusal c line ≡ 0 → formRefusal c f ≡ 0
     unfolding lineRefusal formRefusalOr3
-    line-fine f o e = rw o at (passes (bytesGood line) 1 _ e .1)
+    line-fine f o e = rw o at (fine (bytesGood line) 1 _ e .1)
 
     abbrev onRest : Form → Sheet → Sheet
     onRest f (taken gs) = taken (f ∷ gs)

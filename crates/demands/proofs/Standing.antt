@@ -3,13 +3,12 @@ use mathlib.Core.Bool.{true, false≢true}
 use mathlib.Core.Option.{some}
 use mathlib.Core.Path.{_≡_, refl}
 use Prim.Native.Nat.{ℕ}
+use Rattle.framed.proofs.Lines.{taken}
 use Rattle.framed.specs.Framed.{frameOf}
 use Rattle.plan.specs.Taken.{Before as Standing, start as bare, zoned as zonedBy, lines as others, place}
 use Rattle.sheet.specs.Form.{Form, zone, change, cron, rule, extra, except}
 use Rattle.sheet.specs.Place.{Before, start, zoned, lines, inPlace}
-use Rattle.sheet.specs.Range.{inRange}
-use Rattle.sheet.specs.Refusals.{Context, contextAfter, together, limitsKept, formRefusal}
-use Rattle.demands.proofs.Read.{passes}
+use Rattle.sheet.specs.Refusals.{Context, contextAfter, limitsKept, formRefusal}
 
 -- what the lines before a line leave, as the load check has it of their frames
 abbrev standingOf : Before → ℕ → ℕ → Standing
@@ -47,9 +46,4 @@ module _ (low offset : ℕ) where
   placed-after lines (except t) p l = refl
 
 pub frame-placed : (c : Context) (f : Form) → formRefusal c f ≡ 0 → place (standing c) (frameOf f) ≡ some (standing (contextAfter c f))
-unfolding formRefusal
-frame-placed c f e =
-    let p = passes (inPlace (c .before) f) 3 _ e in
-    let r = passes (inRange f) 4 _ (p .1) in
-    let t = passes (together f) 5 _ (r .1) in
-    placed-after (c .low) (c .offset) (c .before) f (p .0) (passes (limitsKept c f) 6 _ (t .1) .0)
+frame-placed c f e = let a = taken c f e in placed-after (c .low) (c .offset) (c .before) f (a .place) (a .limits)

@@ -20,23 +20,26 @@ use Rattle.framed.proofs.Goods.{written}
 use Rattle.framed.proofs.Helds.{rule-held}
 
 -- nothing is wrong with a line that is taken
-pub record Taken (f : Form) : Type 0 where
+pub record Taken (c : Context) (f : Form) : Type 0 where
+  pub place : inPlace (c .before) f ≡ true
   pub range : inRange f ≡ true
   pub parts : together f ≡ true
+  pub limits : limitsKept c f ≡ true
   pub start : startOccurs f ≡ true
 
-fine : (b : Bool) (n x : ℕ) → cond (not b) (suc n) x ≡ 0 → (b ≡ true) × (x ≡ 0)
+-- where nothing is refused a condition holds, and those after it refuse nothing
+pub fine : (b : Bool) (n x : ℕ) → cond (not b) (suc n) x ≡ 0 → (b ≡ true) × (x ≡ 0)
 fine true n x e = (refl, e)
 fine false n x e = absurd (omega arith)
 
-pub taken : (c : Context) (f : Form) → formRefusal c f ≡ 0 → Taken f
+pub taken : (c : Context) (f : Form) → formRefusal c f ≡ 0 → Taken c f
 unfolding formRefusal
 taken c f e =
     let place = fine (inPlace (c .before) f) 3 _ e in
     let range = fine (inRange f) 4 _ (place .1) in
     let parts = fine (together f) 5 _ (range .1) in
     let limits = fine (limitsKept c f) 6 _ (parts .1) in
-    record { range = range .0; parts = parts .0; start = fine (startOccurs f) 7 _ (limits .1) .0 }
+    record { place = place .0; range = range .0; parts = parts .0; limits = limits .0; start = fine (startOccurs f) 7 _ (limits .1) .0 }
 
 pub line-held : (c : Context) (f : Form) → formRefusal c f ≡ 0 → written f ≡ true → (m : ℕ) → m < windowMinutes → frameHolds m (frameOf f) ≡ lineHolds m f
 unfolding frameHolds frameOf lineHolds
