@@ -5,6 +5,7 @@ use Prim.Native.Nat.{ℕ}
 use lib.IntN.{ℤ}
 use lib.Signed.{ltZ}
 use Rattle.compile.specs.Compiled.{plan, compile}
+use Rattle.evandrusk.proofs.Nearests.{next-answer-unique, previous-answer-unique}
 use Rattle.evandrusk.specs.Plans.{NearestFound, NextAnswer, PreviousAnswer, later}
 use Rattle.evandrusk.specs.declared.answers.EvkFound.{EvkFound}
 use Rattle.demands.specs.Meant.{MeantInstant}
@@ -29,3 +30,12 @@ module _ (text : List ℕ) (room : ℕ) (p : List ℕ) (compiled : compile text 
   pub previous-meant : NearestFound later (MeantInstant text) asked r → PreviousAnswer p asked r
   unfolding PreviousAnswer
   previous-meant = meant-answer text p (plan-source text room p compiled) later asked r
+
+-- at most one answer fits the text's meaning
+module _ (text : List ℕ) (room : ℕ) (p : List ℕ) (compiled : compile text room ≡ plan p) (asked : ℤ) (r s : EvkFound) where
+  pub next-meant-unique : NearestFound ltZ (MeantInstant text) asked r → NearestFound ltZ (MeantInstant text) asked s → r ≡ s
+  next-meant-unique a b = next-answer-unique p asked r s (next-meant text room p compiled asked r a) (next-meant text room p compiled asked s b)
+
+  pub previous-meant-unique : NearestFound later (MeantInstant text) asked r → NearestFound later (MeantInstant text) asked s → r ≡ s
+  previous-meant-unique a b =
+      previous-answer-unique p asked r s (previous-meant text room p compiled asked r a) (previous-meant text room p compiled asked s b)
