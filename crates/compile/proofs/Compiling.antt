@@ -7,7 +7,7 @@ use native.Mathlib.Nat.{add-zero, zero-add}
 use native.Mathlib.Omega.{arith}
 use borrow.Author.Tests.{lt-ltb, le-ltb, ltb-false}
 use lib.Dec.{ltb}
-use lib.ListN.{length, take, drop, length-append}
+use lib.ListN.{length, drop, length-append, length-map}
 use lib.Seq.{sets, length-sets, sets-eq, take-append-seam}
 use Rattle.framed.specs.Framed.{frameOf}
 use Rattle.hex.proofs.Puts.{put-inside}
@@ -96,10 +96,6 @@ pub record TakenAs (text : List ℕ) (n bytes : ℕ) : Type 0 where
   pub size : bytes ≡ length (planText (map frameOf forms))
   pub read : framesRead text ≡ map frameOf forms
 
-length-frames : (fs : List Form) → length (map frameOf fs) ≡ length fs
-length-frames [] = refl
-length-frames (f ∷ fs) = ap suc (length-frames fs)
-
 pub sheet-taken : (text : List ℕ) → tooLong text ≡ false → (n bytes : ℕ) → Read.Is n bytes ≡ readAs (framed text) → TakenAs text n bytes
 unfolding asFrom framed framesRead
 sheet-taken text l n bytes e = by-sheet (readSheet text) refl (framed-is text l)
@@ -118,7 +114,7 @@ sheet-taken text l n bytes e = by-sheet (readSheet text) refl (framed-is text l)
         record {
           forms = fs;
           sheet = g;
-          count = ap countIn r ∙ length-frames fs;
+          count = ap countIn r ∙ length-map fs frameOf;
           size = ap bytesIn r;
           read = frames-read (linesOf text .whole) 0 0 first (linesOf text .tail) (map frameOf fs) f;
         }
@@ -129,13 +125,9 @@ rows-back : (fs : List Frame) → map frameIn (map rowOf fs) ≡ fs
 rows-back [] = refl
 rows-back (f ∷ fs) = rw (frame-in-row f, rows-back fs) refl
 
-length-rows : (fs : List Frame) → length (map rowOf fs) ≡ length fs
-length-rows [] = refl
-length-rows (f ∷ fs) = ap suc (length-rows fs)
-
 pub frames-kept : (rows₀ rows : List (List ℕ)) (fs : List Frame) (n : ℕ) → rows ≡ sets rows₀ 0 (map rowOf fs) → n ≡ length fs → n ≤ length rows₀ → framesIn rows n ≡ fs
 frames-kept rows₀ rows fs n e c h =
-    let m : n ≡ length (map rowOf fs) = c ∙ sym (length-rows fs) in
+    let m : n ≡ length (map rowOf fs) = c ∙ sym (length-map fs rowOf) in
     rw (e, sets-eq (map rowOf fs) rows₀ 0 (omega (arith, m)), m) (ap (map frameIn) (take-append-seam (map rowOf fs) _) ∙ rows-back fs)
 
 pub rows-places : (rows₀ rows : List (List ℕ)) (fs : List Frame) → rows ≡ sets rows₀ 0 (map rowOf fs) → length rows₀ ≡ 64 → length rows ≡ 64
@@ -163,7 +155,7 @@ module _ (text buffer : List ℕ) (l : tooLong text ≡ false) (n bytes end : �
     kept : planText (framesIn rows n ++ (Frame.End n ∷ [])) ≡ compiledText (t .forms)
     unfolding compiledText
     kept =
-        let k : n ≡ length (map frameOf (t .forms)) = t .count ∙ sym (length-frames (t .forms)) in
+        let k : n ≡ length (map frameOf (t .forms)) = t .count ∙ sym (length-map (t .forms) frameOf) in
         let f : framesIn rows n ≡ map frameOf (t .forms) = frames-kept rows₀ rows (map frameOf (t .forms)) n (stored ∙ ap (λ (fs : List Frame). sets rows₀ 0 (map rowOf fs)) (t .read)) k (omega (arith, places)) in
         ap planText (ap (λ (fs : List Frame). fs ++ (Frame.End n ∷ [])) f ∙ ap (λ (m : ℕ). map frameOf (t .forms) ++ (Frame.End m ∷ [])) (t .count) ∙ sym (compiled-frames (t .forms)))
 

@@ -1,5 +1,5 @@
 -- One line more.
-use mathlib.Core.Bool.{Bool, true, false, cond, not}
+use mathlib.Core.Bool.{true}
 use mathlib.Core.List.{List}
 use mathlib.Core.Path.{_≡_, refl, sym, ap}
 use Prim.Native.Nat.{ℕ, _+_}
@@ -27,17 +27,14 @@ use Rattle.compile.specs.Steps.{roomFor, frameFits, nextContext, stepped
 use Rattle.compile.specs.declared.step.State.{State}
 use Rattle.compile.specs.declared.step.Stepped.{Stepped}
 
-placed : (b : Bool) (n : ℕ) → cond (not b) 4 n ≡ 0 → b ≡ true
-placed true n e = refl
-placed false n e = absurd (omega (arith, e))
-
 -- a transition of a line that is taken has room, and is of the window
 form-fits : (c : Context) (f : Form) → formRefusal (contextAs c) f ≡ 0 → frameFits c (frameOf f) ≡ true
-unfolding frameOf inRange instantOfTime formRefusal inPlace
+unfolding frameOf inRange instantOfTime inPlace
 form-fits c (zone s) e = refl
 form-fits c (change t s) e =
-    let m = minute-in-window t (both-true (timeInRange t) _ (taken (contextAs c) (change t s) e .range) .0) in
-    rw (room (c .before) (placed (inPlace (contextAs c .before) (change t s)) _ e), le-leb (minuteOf t + bias) (bias + windowLast) (omega (arith, m))) refl
+    let k = taken (contextAs c) (change t s) e in
+    let m = minute-in-window t (both-true (timeInRange t) _ (k .range) .0) in
+    rw (room (c .before) (k .place), le-leb (minuteOf t + bias) (bias + windowLast) (omega (arith, m))) refl
   where
     room : (b : Before) → inPlace (beforeAs b) (change t s) ≡ true → roomFor b ≡ true
     room Before.Start h = refl

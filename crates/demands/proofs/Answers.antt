@@ -13,7 +13,7 @@ use Rattle.sheet.specs.Form.{Form}
 use Rattle.sheet.specs.Meaning.{SheetInstant}
 use Rattle.demands.specs.Meant.{MeantInstant}
 use Rattle.demands.proofs.Allowed.{compiled-taken}
-use Rattle.demands.proofs.Compiled.{Source}
+use Rattle.demands.proofs.Sources.{Source}
 use Rattle.demands.proofs.Instants.{plan-of-sheet, sheet-of-plan}
 
 -- the nearest of some instants is the nearest of the same instants

@@ -10,7 +10,7 @@ use Rattle.evandrusk.specs.Plans.{NearestFound, NextAnswer, PreviousAnswer, lat
 use Rattle.evandrusk.specs.declared.answers.EvkFound.{EvkFound}
 use Rattle.demands.specs.Meant.{MeantInstant}
 use Rattle.demands.proofs.Answers.{answer-means, meant-answer}
-use Rattle.demands.proofs.Compiled.{plan-source}
+use Rattle.demands.proofs.Sources.{plan-source}
 
 module _ (text : List ℕ) (room : ℕ) (p : List ℕ) (compiled : compile text room ≡ plan p) (asked : ℤ) (r : EvkFound) where
   -- what meets the promise of `evk_next` is the nearest later instant of the text's meaning, or 11 where there is none; and nothing else is

@@ -5,7 +5,7 @@ pub mod Places
 pub mod Frequencies
 pub mod RuleGoods
 pub mod FrameGoods
-pub mod Compiled
+pub mod Sources
 pub mod Read
 pub mod Standing
 pub mod Allowed

@@ -1,35 +1,15 @@
--- The frames that a sheet is compiled to, and of which sheet.
+-- The sheet behind a plan.
 use mathlib.Core.Bool.{Bool, true, false}
-use mathlib.Core.List.{List, [], _∷_, _++_, map}
-use mathlib.Core.Path.{_≡_, refl, ap, subst, _∙_}
-use Prim.Native.Nat.{ℕ, suc, _+_}
-use native.Mathlib.Nat.{add-zero, zero-add}
-use native.Mathlib.Omega.{arith}
+use mathlib.Core.List.{List}
+use mathlib.Core.Path.{_≡_, refl, subst}
+use Prim.Native.Nat.{ℕ}
 use lib.Dec.{ltb}
 use lib.ListN.{length}
-use Rattle.compile.specs.Compiled.{Compiled, plan, refusal, compiledFrames, compiledText, compile}
-use Rattle.framed.specs.Framed.{frameOf}
+use Rattle.compile.specs.Compiled.{Compiled, plan, refusal, compiledText, compile}
 use Rattle.lines.specs.Lines.{linesOf}
-use Rattle.plan.specs.declared.Frame.{Frame}
 use Rattle.sheet.specs.Form.{Form}
 use Rattle.sheet.specs.Refusals.{Sheet, taken, refused, readSheet, badAt, badLength}
 
--- the frames of some lines after n others, then the end frame
-abbrev framesAfter : ℕ → List Form → List Frame
-framesAfter n [] = Frame.End n ∷ []
-framesAfter n (f ∷ fs) = frameOf f ∷ framesAfter (suc n) fs
-
-frames-after : (fs : List Form) (n : ℕ) → framesAfter n fs ≡ map frameOf fs ++ (Frame.End (n + length fs) ∷ [])
-frames-after [] n = rw add-zero
-frames-after (f ∷ fs) n =
-    let e : suc n + length fs ≡ n + suc (length fs) = omega arith in
-    ap (λ (gs : List Frame). frameOf f ∷ gs) (frames-after fs (suc n) ∙ rw e)
-
-pub compiled-frames : (fs : List Form) → compiledFrames fs ≡ map frameOf fs ++ (Frame.End (length fs) ∷ [])
-unfolding compiledFrames
-compiled-frames fs = frames-after fs 0 ∙ rw zero-add
-
--- the sheet behind a plan
 pub record Source (text p : List ℕ) : Type 0 where
   pub forms : List Form
   pub sheet : readSheet text ≡ taken forms
