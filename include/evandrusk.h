@@ -1,18 +1,19 @@
-/* Evandrusk: dates, day numbers and ISO weeks; plans. C99, usable from C++; link with libevandrusk.a.
+/* Evandrusk: dates, day numbers and ISO weeks; sheets and plans. C99, usable from C++; link with libevandrusk.a.
 
    Days are counted from 1970-01-01, which is day 0; earlier days are negative. The calendar is the proleptic
    Gregorian one and runs from 0001-01-01 (day -719162) to 9999-12-31 (day 2932896). ISO weeks (ISO 8601) start
    on Monday, week 1 of a year holds its 4 January, and weekdays run from 1, Monday, to 7, Sunday.
 
    Instants are minutes from 2000-01-01 00:00 UTC and may be negative. Local minutes count from 2000-01-01 00:00 on
-   the wall clock to 2099-12-31 23:59, so 0 to 52595999. A plan is lent as its bytes and how many they are, NULL and
-   0 too; it is only read, and each call checks it anew.
+   the wall clock to 2099-12-31 23:59, so 0 to 52595999. A sheet or a plan is lent as its bytes and how many they are,
+   NULL and 0 too; it is only read, but for the buffer of evk_compile, and each call checks it anew. Lent buffers must
+   not overlap.
 
    Each function takes any 64-bit numbers whatever and never traps. It keeps no state, allocates nothing and may
    be called from several threads at once. Of a C library the archive wants memcpy and memset at most.
 
    Each answer has a `number`: EVK_TAKEN, or the reason of a refusal. Look at it first: on a refusal every other
-   field but `line` is 0, and day 0 and instant 0 are also good answers. */
+   field but `line`, and of a sheet the bad line's place and length, is 0, and day 0 and instant 0 are also good answers. */
 #ifndef EVANDRUSK_H
 #define EVANDRUSK_H
 
@@ -25,7 +26,15 @@ extern "C" {
 
 enum {
     EVK_TAKEN = 0,
+    EVK_TOO_LONG = 1,     /* the sheet has over 16448 bytes or over 64 lines */
+    EVK_BAD_LINE = 2,     /* a line over 256 bytes, with a byte outside 20 to 7E, or without LF */
+    EVK_BAD_FORM = 3,     /* a line of no listed form, an unknown name or value word */
+    EVK_BAD_PLACE = 4,    /* a line where it may not stand, or no line at all */
     EVK_OUT_OF_RANGE = 5, /* a number outside its range, or a date, day or ISO date that is not in the calendar */
+    EVK_BAD_PARTS = 6,    /* rule parts that do not go together */
+    EVK_BAD_CHANGE = 7,   /* a transition too near the one before it, or of too many minutes or none */
+    EVK_BAD_START = 8,    /* a start that is no occurrence of its rule, or UNTIL before it */
+    EVK_NO_ROOM = 9,      /* the plan is longer than the lent buffer */
     EVK_NO_PLAN = 10,     /* the plan is not taken: `line`, from 1, is the first that may not stand there or is missing */
     EVK_NONE = 11         /* the plan has no such instant */
 };
@@ -33,6 +42,7 @@ enum {
 typedef struct { uint64_t number; int64_t day; } evk_day;
 typedef struct { uint64_t number; int64_t year, month, day; } evk_date;
 typedef struct { uint64_t number; int64_t year, week, weekday; } evk_iso;
+typedef struct { uint64_t number, line, length, bad_at, bad_length; } evk_compiled;
 typedef struct { uint64_t number, line; } evk_checked;
 typedef struct { uint64_t number, line; int64_t instant; } evk_found;
 
@@ -52,6 +62,12 @@ evk_iso evk_iso_of_day(int64_t day);
    anything else is refused with EVK_OUT_OF_RANGE, and so are 9999-W52-6 and 9999-W52-7, which are past
    9999-12-31. 2026-W53-5 is day 20819; 2027-W53-5 is refused. */
 evk_day evk_day_of_iso(int64_t year, int64_t week, int64_t weekday);
+
+/* Compiles a sheet to a plan in the buffer `plan`. EVK_TAKEN and the plan's length: its bytes are the buffer's first, and
+   every byte after them is as it was. Else the first bad line decides, and in it the lowest number: `line`, from 1, with
+   the line without its LF at `bad_at`, of `bad_length` bytes; 0 where no line is bad (EVK_TOO_LONG, EVK_NO_ROOM); and no
+   byte of the buffer is changed. No plan is longer than 4989 bytes. */
+evk_compiled evk_compile(const uint8_t *sheet, size_t sheet_length, uint8_t *plan, size_t plan_length);
 
 /* Whether a plan is taken; if not, EVK_NO_PLAN and its line. A plan of no bytes is refused at line 1. */
 evk_checked evk_check(const uint8_t *plan, size_t plan_length);

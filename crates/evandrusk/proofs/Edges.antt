@@ -8,6 +8,8 @@ use borrow.Author.Tests.{ltb-true, lt-ltb}
 use lib.Dec.{ltb}
 use lib.IntN.{ℤ, pos, negsuc}
 use lib.Signed.{ltZ}
+use Rattle.compile.specs.Answers.{compiledAs}
+use Rattle.compile.specs.Compiled.{Compiled, plan as made, refusal}
 use Rattle.load.specs.Loads.{loadedAs}
 use Rattle.next.proofs.Ready.{taken-good, plan-instants-range}
 use Rattle.next.specs.Instants.{Next, Previous, NextOf, PreviousOf}
@@ -20,6 +22,7 @@ use Rattle.signed.specs.Bias.{biasInstant, unbiasInstant}
 use Rattle.zone.specs.Stretches.{instantOfLocal}
 use Rattle.zone.specs.Zone.{zoneGood}
 use Rattle.zone.specs.declared.stretch.Instant.{Instant}
+use Rattle.evandrusk.specs.Sheets.{compiledFor, compileAnswer}
 use Rattle.evandrusk.specs.Plans.{Nearest, NearestBy, NextAnswer, PreviousAnswer, SignedInstant, answerAs, checkAnswer, checkedAs, later, localAnswer, localAs, localBy, localFound, minuteOf}
 use Rattle.evandrusk.specs.Plans.NearestFound.{found, none}
 use Rattle.evandrusk.proofs.Orders.{signed-earlier, signed-later, signed-order}
@@ -117,3 +120,7 @@ check-edge plan = by-load (load plan)
     by-load : (l : Loaded) → checkedAs (loadedAs l) ≡ record { number = loadedNumber l; line = loadedLine l }
     by-load (taken fs) = refl
     by-load (refused k) = refl
+
+pub compile-edge : (x : Compiled) → compiledFor (compiledAs x) ≡ compileAnswer x
+compile-edge (made p) = refl
+compile-edge (refusal number line at size) = refl

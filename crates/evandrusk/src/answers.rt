@@ -2,11 +2,13 @@
 ghost use mathlib.Core.Path.{_≡_};
 ghost use Rattle.signed.specs.Bias.{unbiasInstant};
 ghost use Rattle.evandrusk.specs.Answers.{dayAnswer, dateAnswer, isoAnswer};
+ghost use Rattle.evandrusk.specs.Sheets.{compiledFor};
 ghost use Rattle.evandrusk.specs.Plans.{checkedAs, answerAs, localAs, foundAt, refusedAs, minuteOf};
 use calendar::date::Dated;
 use calendar::date::Day;
 use calendar::iso::IsoDated;
 use calendar::window;
+use compile::Compiled;
 use load::Loaded;
 use next::Answer;
 use next::Local;
@@ -44,6 +46,36 @@ pub struct EvkFound {
     pub number: u64,
     pub line: u64,
     pub instant: i64,
+}
+
+#[repr(C)]
+pub struct EvkCompiled {
+    pub number: u64,
+    pub line: u64,
+    pub length: u64,
+    pub bad_at: u64,
+    pub bad_length: u64,
+}
+
+pub(crate) fn compiled(made: Compiled) -> EvkCompiled
+    ensures { λ r. ⌜ r ≡ compiledFor made ⌝ }
+{
+    match made {
+        Compiled::Plan(length) => EvkCompiled {
+            number: 0,
+            line: 0,
+            length: length as u64,
+            bad_at: 0,
+            bad_length: 0,
+        },
+        Compiled::Refused(refusal) => EvkCompiled {
+            number: refusal.number,
+            line: refusal.line as u64,
+            length: 0,
+            bad_at: refusal.at as u64,
+            bad_length: refusal.length as u64,
+        },
+    }
 }
 
 pub(crate) fn day(found: Day) -> EvkDay

@@ -1,8 +1,13 @@
-// The functions that C calls, and nothing else: numbers and a lent plan in, one call, a struct out. include/evandrusk.h declares them.
+// The functions that C calls, and nothing else: numbers and lent bytes in, one call, a struct out. include/evandrusk.h declares them.
 ghost use mathlib.Core.Path.{_≡_};
+ghost use lib.ListN.{length};
+ghost use Rattle.compile.specs.Answers.{leftIn};
+ghost use Rattle.compile.specs.Compiled.{compile as compileOf};
 ghost use Rattle.evandrusk.specs.Answers.{dayOfDateAnswer, dateOfDayAnswer, isoOfDayAnswer, dayOfIsoAnswer};
 ghost use Rattle.evandrusk.specs.Plans.{checkAnswer, NextAnswer, PreviousAnswer, localAnswer};
+ghost use Rattle.evandrusk.specs.Sheets.{compileAnswer};
 use answers::EvkChecked;
+use answers::EvkCompiled;
 use answers::EvkDate;
 use answers::EvkDay;
 use answers::EvkFound;
@@ -48,6 +53,14 @@ pub extern "C" fn evk_day_of_iso(year: i64, week: i64, weekday: i64) -> EvkDay
         signed::natural(weekday),
     );
     answers::day(found)
+}
+
+#[no_mangle]
+pub extern "C" fn evk_compile(sheet: &[u8], plan: &mut [u8]) -> EvkCompiled
+    ensures answer { λ r. ⌜ r ≡ compileAnswer (compileOf (now (sheet .entry)) (length (now (plan .entry)))) ⌝ }
+    ensures plan { λ _. ⌜ now (plan .exit) ≡ leftIn (now (plan .entry)) (compileOf (now (sheet .entry)) (length (now (plan .entry)))) ⌝ }
+{
+    answers::compiled(compile::compile(sheet, plan))
 }
 
 #[no_mangle]
