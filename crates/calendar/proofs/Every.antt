@@ -2,12 +2,12 @@
 use mathlib.Core.Bool.{Bool, true, false, _&&_, _||_, false≢true}
 use mathlib.Core.Logic.{dite}
 use mathlib.Core.Path.{_≡_, refl, sym, subst, _∙_}
-use Prim.Native.Nat.{ℕ, zero, suc, _<_}
+use Prim.Native.Nat.{ℕ, zero, suc, _<_, _≤_}
 use native.Mathlib.Decide.{decLt, ℕ-discrete}
 use native.Mathlib.Omega.{arith}
-use borrow.Author.Tests.{ne-eqb}
-use lib.Dec.{T, eqb}
-use Rattle.calendar.specs.Below.{everyBelow}
+use borrow.Author.Tests.{ne-eqb, leb-true}
+use lib.Dec.{T, leb, eqb}
+use Rattle.calendar.specs.Below.{everyBelow, within}
 
 pub left : (a b : Bool) → T (a && b) → T a
 left true b t = tt
@@ -21,6 +21,9 @@ right false b t = absurd t
 pub both-true : (a b : Bool) → (a && b) ≡ true → (a ≡ true) × (b ≡ true)
 both-true true b e = (refl, e)
 both-true false b e = absurd (false≢true e)
+
+pub within-range : (low high n : ℕ) → within low high n ≡ true → (low ≤ n) × (n ≤ high)
+within-range low high n e = let r = both-true (leb low n) (leb n high) e in (leb-true low n (r .0), leb-true n high (r .1))
 
 -- the order of a test does not matter, nor that of four
 pub same-either-way : (a b : ℕ) → eqb a b ≡ eqb b a

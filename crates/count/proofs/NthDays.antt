@@ -3,7 +3,7 @@ use mathlib.Core.List.{List}
 use mathlib.Core.Path.{_≡_, sym, ap, _∙_}
 use Prim.Native.Nat.{ℕ, _+_, _-_, _<_, _≤_, max}
 use native.Mathlib.Omega.{arith}
-use Rattle.calendar.proofs.Windows.{month-days-range, month-first-next, month-first-mono, month-first-end}
+use Rattle.calendar.proofs.Windows.{month-days-range, month-first-next}
 use Rattle.calendar.specs.Below.{countFrom}
 use Rattle.calendar.specs.Window.{monthFirst, monthDays}
 use Rattle.frames.proofs.MonthDays.{in-month}
@@ -14,6 +14,7 @@ use Rattle.masks.specs.Masks.{bit, bitsFrom}
 use Rattle.days.specs.Search.{nthFrom, nthDay}
 use Rattle.count.specs.Sets.{HeldSet}
 use Rattle.days.proofs.Nths.{nth-zero, nth-past, nth-within, count-none, count-along, nth-along}
+use Rattle.days.proofs.Walks.{month-end-top}
 
 module _ (l : List ℕ) where
   pub nth-day-zero : (low : ℕ) → max 36525 low ≡ nthDay l 0 low
@@ -25,11 +26,8 @@ module _ (l : List ℕ) where
   unfolding nthDay nthFrom
   nth-day-past c low h = let e : 36525 - low ≡ 0 = omega arith in rw e
 
-pub month-ends : (k : ℕ) → k < 1200 → monthFirst k + monthDays k ≤ 36525
-month-ends k h = omega (arith, month-first-next k h, month-first-mono (k + 1) 1200 (omega arith) (omega arith), month-first-end)
-
 pub day-below : (k n : ℕ) → InMonth k n → dayOf k n < 36525
-day-below k n i = omega (arith, i .low, i .high, month-ends k (i .month))
+day-below k n i = omega (arith, i .low, i .high, month-end-top k (i .month))
 
 -- from day n of month k on
 module _ (l : List ℕ) (k n : ℕ) (i : InMonth k n) (set : ℕ) (e : HeldSet l k set) where
@@ -59,7 +57,7 @@ module _ (l : List ℕ) (k n : ℕ) (i : InMonth k n) (set : ℕ) (e : HeldSet l
   -- the window's days in those of this month and those past it
   split : 36525 - dayOf k n ≡ rest + (36525 - dayOf (k + 1) 1)
   unfolding rest
-  split = omega (arith, i .low, i .high, month-first-next k (i .month), month-ends k (i .month))
+  split = omega (arith, i .low, i .high, month-first-next k (i .month), month-end-top k (i .month))
 
   pub nth-day-here : (c : ℕ) → 1 ≤ c → c ≤ bitsFrom set n → monthFirst k + nthFrom (bit set) c (64 - n) n - 1 ≡ nthDay l c (dayOf k n)
   unfolding nthDay rest

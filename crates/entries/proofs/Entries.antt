@@ -1,6 +1,6 @@
 -- An entry of BYDAY: the reader against the form of a whole piece.
 use mathlib.Core.Bool.{Bool, true, false, not, _&&_}
-use mathlib.Core.List.{List, [], _∷_, _++_, append-assoc}
+use mathlib.Core.List.{List, [], _∷_, _++_}
 use mathlib.Core.Option.{Option, none, some}
 use mathlib.Core.Path.{_≡_, refl, sym, ap, _∙_}
 use Prim.Native.Nat.{ℕ, _+_, _-_, _<_, _≤_}
@@ -8,7 +8,6 @@ use native.Mathlib.Omega.{arith}
 use borrow.Author.Tests.{eq-eqb, ne-eqb, eqb-true, lt-ltb, not-true}
 use lib.Dec.{eqb}
 use lib.ListN.{length, getD, take, drop, length-take, length-drop, take-append-drop}
-use lib.Seq.{drop-drop, drop-append-le}
 use Rattle.calendar.proofs.Every.{both-true}
 use Rattle.calendar.specs.Below.{allOf}
 use Rattle.zone.proofs.Good.{by-order}
@@ -16,9 +15,10 @@ use Rattle.sheet.specs.Form.{plain, ordinal, weekdayWords, ordinalEntry, entryO
 use Rattle.sheet.specs.Words.{Signed, isDigit, signedOf, pieces, eachOf}
 use Rattle.words.proofs.Choices.{wordOf, prefixFree, without, one-tied}
 use Rattle.words.proofs.Ends.{End, comma, end-byte, end-stops}
-use Rattle.words.proofs.Forms.{Stops, signed-tied}
+use Rattle.words.proofs.Forms.{Stops, signed-tied, part-drop}
 use Rattle.words.proofs.Listing.{all-tied}
 use Rattle.words.proofs.Named.{one-found, word-tested, word-place}
+use Rattle.words.proofs.Pieces.{cut-here}
 use Rattle.words.proofs.Tied.{whole-none, whole-all, whole-part, made, Tied, tied-made, tied-by, tied-none}
 use Rattle.words.specs.Answers.{signedRead, oneAt}
 use Rattle.words.specs.Reads.{digitsIn, startsWith, signedAt}
@@ -120,15 +120,14 @@ module _ (s : List ℕ) (at : ℕ) (p tail : List ℕ) (here : drop at s ≡ p +
   word-from : (e : ℕ) → at ≤ e → e ≤ at + length p → Tied (wordOf weekdayWords (drop (e - at) p)) (oneAt weekdayWords s e) e (at + length p)
   word-from e a b =
       let f : at + (e - at) ≡ e = omega arith in
-      let g : drop e s ≡ drop (e - at) p ++ tail =
-      ap (λ (n : ℕ). drop n s) (sym f) ∙ sym (drop-drop (e - at) at s) ∙ ap (drop (e - at)) here ∙ drop-append-le (e - at) p tail (omega arith) in
+      let g : drop e s ≡ drop (e - at) p ++ tail = rw f at (part-drop s at p tail here (e - at) (omega arith)) in
       let n : e + length (drop (e - at) p) ≡ at + length p = omega (arith, length-drop (e - at) p) in
       rw n at (one-tied s e (drop (e - at) p) tail g weekdayWords weekdays-apart (end-weekdays ends))
 
   -- before a weekday at the end
   front-tied : (w : ℕ) → wordOf weekdayWords (back p) ≡ some w → Tied (signedOf (front p)) (signedRead (signedAt s at)) at (at + (length p - 2))
   front-tied w e =
-      let f : drop at s ≡ front p ++ (back p ++ tail) = here ∙ ap (λ (l : List ℕ). l ++ tail) (sym (take-append-drop (length p - 2) p)) ∙ append-assoc (front p) (back p) tail in
+      let f : drop at s ≡ front p ++ (back p ++ tail) = cut-here (front p) (back p) tail here (sym (take-append-drop (length p - 2) p)) in
       rw (front-length p) at (signed-tied s at (back p ++ tail) (like-stops (back p) tail (last-like p w e)) (front p) f)
 
   -- no number is read, and the piece is longer than a weekday

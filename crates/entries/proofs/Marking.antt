@@ -5,9 +5,9 @@ use mathlib.Core.Option.{Option, none, some}
 use mathlib.Core.Path.{_≡_, refl, sym, ap, _∙_}
 use Prim.Native.Nat.{ℕ, zero, suc, _+_, _-_, _*_, _/_, _%_, _^_, _<_, _≤_}
 use native.Mathlib.Omega.{arith}
-use borrow.Author.Tests.{leb-true, le-leb, ltb-true, eq-eqb, ne-eqb, eqb-true, eqb-false}
-use lib.Dec.{leb, ltb, eqb}
-use Rattle.calendar.proofs.Every.{both-true, same-either-way}
+use borrow.Author.Tests.{le-leb, ltb-true, eq-eqb, ne-eqb, eqb-true, eqb-false}
+use lib.Dec.{ltb, eqb}
+use Rattle.calendar.proofs.Every.{both-true, within-range, same-either-way}
 use Rattle.calendar.specs.Below.{within, anyOf, allOf}
 use Rattle.frames.specs.Rule.{ordinalMask}
 use Rattle.framed.proofs.Ends.{signedAs}
@@ -23,7 +23,7 @@ use Rattle.sheet.specs.Form.{Entry, plain, ordinal}
 use Rattle.sheet.specs.Parts.{isOrdinal as hasOrdinal}
 use Rattle.sheet.specs.Range.{entryInRange, dayNumberInRange}
 use Rattle.sheet.specs.Words.{Signed}
-use Rattle.words.proofs.Folding.{overAll}
+use Rattle.words.specs.Lists.{overAll}
 use Rattle.zone.proofs.Good.{by-order}
 use Rattle.entries.specs.Marks.{ordinalBit, withPlain, withOrdinal, withNumber}
 use Rattle.entries.specs.Lists.{numbersGiven, weekdaysGiven}
@@ -48,9 +48,6 @@ some-between low high n false h = record { between = λ k e. let z : _≡_ {A = 
 -- the sign of one end
 abbrev signIs : Bool → Bool → Bool
 signIs minus m = cond minus m (not m)
-
-within-range : (low high n : ℕ) → within low high n ≡ true → (low ≤ n) × (n ≤ high)
-within-range low high n e = let r = both-true (leb low n) _ e in (leb-true _ _ (r .0), leb-true _ _ (r .1))
 
 -- ---- numbers
 abbrev pub takeNumber : Numbers → Signed → Numbers
@@ -85,7 +82,7 @@ number-step m n = by-cases (within 1 31 (n .number)) (n .minus)
 
 numbers-over : (m : Numbers) (ns : List Signed) → overAll takeNumber m ns
     ≡ record { given = m .given; good = m .good && allOf dayNumberInRange ns; front = setAll (numberPlace false) (m .front) ns; back = setAll (numberPlace true) (m .back) ns }
-unfolding overAll setAll
+unfolding overAll
 numbers-over m [] = rw (and-true (m .good)) refl
 numbers-over m (n ∷ ns) = numbers-over (takeNumber m n) ns ∙ rw (number-step m n, and-assoc (m .good) (dayNumberInRange n) (allOf dayNumberInRange ns)) refl
 
@@ -179,7 +176,7 @@ entries-over : (m : Weekdays) (es : List Entry) → allOf weekdayWritten es ≡ 
       front = setAll (ordinalPlace false) (m .front) es;
       back = setAll (ordinalPlace true) (m .back) es;
     }
-unfolding overAll setAll
+unfolding overAll
 entries-over m [] a = rw (and-true (m .good), or-false (m .ordinal)) refl
 entries-over m (x ∷ es) a =
     let w = both-true (weekdayWritten x) _ a in

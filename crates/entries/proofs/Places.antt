@@ -53,10 +53,6 @@ pub entry-after : (s : List ℕ) (at : ℕ) (x : Entry) (e : ℕ) → entryRead 
 unfolding EntryRead
 entry-after s at x e q = entry-read s at x e q .0
 
-pub entry-weekday : (s : List ℕ) (at : ℕ) (x : Entry) (e : ℕ) → entryRead s at ≡ some (x, e) → entryWeekday x < 7
-unfolding EntryRead
-entry-weekday s at x e q = entry-read s at x e q .1
-
 -- ---- the lists
 days-read : (s : List ℕ) (at : ℕ) (es : List Entry) (e : ℕ) → daysRead s at ≡ some (es, e) → (at ≤ e) × Every (λ x. entryWeekday x < 7) es
 unfolding daysRead EntryRead

@@ -13,6 +13,7 @@ use Rattle.masks.proofs.Bits.{bit-of-zero}
 use Rattle.masks.proofs.MaskFroms.{mask-ext, mask-from-below, bit-mask-from}
 use Rattle.masks.proofs.WithBits.{with-bit-below, bit-of-with-bit}
 use Rattle.masks.specs.Masks.{bit, maskFrom, withBit}
+use Rattle.words.specs.Lists.{overAll}
 use Rattle.zone.proofs.Good.{by-order}
 
 -- the bit that an element sets, if it sets one
@@ -29,9 +30,8 @@ pub record Between (low high : ℕ) (o : Option ℕ) : Type 0 where
   pub between : (n : ℕ) → o ≡ some n → (low ≤ n) × (n < high)
 
 module _ {A : Type 0} (place : A → Option ℕ) where
-  unfoldable pub setAll : ℕ → List A → ℕ
-  setAll m [] = m
-  setAll m (x ∷ xs) = setAll (setOne m (place x)) xs
+  abbrev pub setAll : ℕ → List A → ℕ
+  setAll = overAll (λ (m : ℕ) (x : A). setOne m (place x))
 
   module _ (low high : ℕ) (word : high ≤ 64) (inside : (x : A) → Between low high (place x)) where
     one-bit : (m i : ℕ) (o : Option ℕ) → Between low high o → bit (setOne m o) i ≡ (bit m i || isAt i o)
@@ -45,7 +45,7 @@ module _ {A : Type 0} (place : A → Option ℕ) where
         with-bit-below m n high h (r .1)
 
     set-bit : (m : ℕ) (xs : List A) (i : ℕ) → bit (setAll m xs) i ≡ (bit m i || anyOf (λ x. isAt i (place x)) xs)
-    unfolding setAll
+    unfolding overAll
     set-bit m [] i = sym (or-false (bit m i))
     set-bit m (x ∷ xs) i =
         set-bit (setOne m (place x)) xs i
@@ -53,7 +53,7 @@ module _ {A : Type 0} (place : A → Option ℕ) where
         ∙ or-assoc (bit m i) (isAt i (place x)) (anyOf (λ y. isAt i (place y)) xs)
 
     set-below : (m : ℕ) (xs : List A) → m < 2 ^ high → setAll m xs < 2 ^ high
-    unfolding setAll
+    unfolding overAll
     set-below m [] h = h
     set-below m (x ∷ xs) h = set-below (setOne m (place x)) xs (one-below m (place x) (inside x) h)
 

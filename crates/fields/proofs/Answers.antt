@@ -31,22 +31,13 @@ pub record Taken (low high : ℕ) (o : Option (List Form × ℕ)) (marks : Marks
   pub read : o ≡ some (forms, c .at)
   pub marked : marks ≡ marksOver low high nothing forms
 
-marksIn : Listed → Marks
-marksIn (Listed.Is n d) = n
-marksIn Listed.Not = nothing
-
-placeIn : Listed → ℕ
-placeIn (Listed.Is n d) = d .at
-placeIn Listed.Not = 0
-
 pub taken-not : (low high : ℕ) (o : Option (List Form × ℕ)) → Listed.Not ≡ listedAs low high nothing o → o ≡ none
 taken-not low high none e = refl
 taken-not low high (some r) e = let z : _≡_ {A = ℕ} 0 1 = cc in absurd (omega arith)
 
 pub taken-is : (low high : ℕ) (o : Option (List Form × ℕ)) (marks : Marks) (c : Cursor) → Listed.Is marks c ≡ listedAs low high nothing o → Taken low high o marks c
-unfolding marksIn placeIn
 taken-is low high none marks c e = let z : _≡_ {A = ℕ} 0 1 = cc in absurd (omega arith)
-taken-is low high (some r) marks c e = record { forms = r .0; read = ap (λ (k : ℕ). some (r .0, k)) (sym (ap placeIn e)); marked = ap marksIn e }
+taken-is low high (some r) marks c e = let k : c ≡ cursor (r .1) = cc in record { forms = r .0; read = rw k refl; marked = cc }
 
 module _ (low high : ℕ) (s : List ℕ) (at : ℕ) where
   pub field-star : low ≤ high → getD s at 0 ≡ 42 → Field.Is (2 ^ (high + 1) - 2 ^ low) false (cursor (at + 1)) ≡ fieldAt low high s at

@@ -1,6 +1,6 @@
 -- Elements marked one after the other.
 use mathlib.Core.Bool.{Bool, true, false, cond}
-use mathlib.Core.List.{List, [], _∷_}
+use mathlib.Core.List.{List}
 use mathlib.Core.Option.{Option, none, some}
 use mathlib.Core.Path.{_≡_, refl, sym, ap, _∙_}
 use Prim.Native.Nat.{ℕ, suc, _+_, _-_, _<_}
@@ -10,13 +10,13 @@ use lib.Dec.{eqb}
 use lib.ListN.{getD}
 use Rattle.sheet.specs.Form.{Element as Form, one, range}
 use Rattle.words.proofs.Afters.{number-after}
-use Rattle.words.proofs.Folding.{overAll, takenAs, taken-not, taken-last, taken-next}
+use Rattle.words.proofs.Folding.{takenAs, taken-not, taken-last, taken-next}
 use Rattle.words.specs.Answers.{numberRead}
 use Rattle.words.specs.Reads.{cursor, numberAt}
 use Rattle.words.specs.declared.cursor.Cursor.{Cursor}
 use Rattle.words.specs.declared.cursor.Number.{Number}
 use Rattle.fields.specs.Elements.{rangeFrom, elementFrom, elementAt, elementRead}
-use Rattle.fields.specs.Marked.{marksOf, elementMarks, marksOver, elementsAt, listedAs, endedAs}
+use Rattle.fields.specs.Marked.{marksOf, elementMarks, elementsAt, listedAs, endedAs}
 use Rattle.fields.specs.declared.element.Element.{Element}
 use Rattle.fields.specs.declared.list.Listed.{Listed}
 use Rattle.fields.specs.declared.marks.Marks.{Marks}
@@ -27,14 +27,6 @@ pub record Read (low high : ℕ) (m : Marks) (x : Element) (marks : Marks) (c : 
   pub read : elementRead x ≡ some (form, c .at)
   pub marked : marks ≡ marksOf low high m form
 
-marksIn : Listed → Marks → Marks
-marksIn (Listed.Is n d) m = n
-marksIn Listed.Not m = m
-
-cursorIn : Listed → Cursor
-cursorIn (Listed.Is n d) = d
-cursorIn Listed.Not = cursor 0
-
 module _ (low high : ℕ) (m : Marks) where
   pub marks-not : (x : Element) → elementMarks low high m x ≡ Listed.Not → elementRead x ≡ none
   marks-not (Element.One n c) e = let z : _≡_ {A = ℕ} 0 1 = cc in absurd (omega arith)
@@ -42,25 +34,20 @@ module _ (low high : ℕ) (m : Marks) where
   marks-not Element.Not e = refl
 
   pub marks-is : (x : Element) (marks : Marks) (c : Cursor) → elementMarks low high m x ≡ Listed.Is marks c → Read low high m x marks c
-  unfolding marksOf marksIn cursorIn
+  unfolding marksOf
   marks-is (Element.One n d) marks c e =
-      record { form = one n; read = ap (λ (k : Cursor). some (one n, k .at)) (ap cursorIn e); marked = sym (ap (λ (l : Listed). marksIn l m) e) }
+      let k : d ≡ c = cc in record { form = one n; read = rw k refl; marked = cc }
   marks-is (Element.Range a b d) marks c e =
-      record { form = range a b; read = ap (λ (k : Cursor). some (range a b, k .at)) (ap cursorIn e); marked = sym (ap (λ (l : Listed). marksIn l m) e) }
+      let k : d ≡ c = cc in record { form = range a b; read = rw k refl; marked = cc }
   marks-is Element.Not marks c e = let z : _≡_ {A = ℕ} 0 1 = cc in absurd (omega arith)
 
 -- ---- the marks of a list as what comes of any list
-over-all : (low high : ℕ) (m : Marks) (xs : List Form) → marksOver low high m xs ≡ overAll (marksOf low high) m xs
-unfolding marksOver overAll
-over-all low high m [] = refl
-over-all low high m (x ∷ xs) = over-all low high (marksOf low high m x) xs
-
 abbrev marked : Marks → ℕ → Listed
 marked m e = Listed.Is m (cursor e)
 
 as-taken : (low high : ℕ) (m : Marks) (o : Option (List Form × ℕ)) → takenAs (marksOf low high) marked Listed.Not m o ≡ listedAs low high m o
 as-taken low high m none = refl
-as-taken low high m (some r) = ap (λ (k : Marks). marked k (r .1)) (sym (over-all low high m (r .0)))
+as-taken low high m (some r) = refl
 
 -- ---- an end that is some place
 pub ended-is : (m : Marks) (end : ℕ) → 0 < end → endedAs m end ≡ Listed.Is m (cursor end)

@@ -19,6 +19,7 @@ use Rattle.masks.specs.Masks.{bit, maskFrom}
 use Rattle.sheet.specs.Form.{Element as Form, one, range}
 use Rattle.sheet.specs.Meaning.{elementHas}
 use Rattle.sheet.specs.Range.{elementInRange}
+use Rattle.words.specs.Lists.{overAll}
 use Rattle.fields.specs.Marked.{marksWith, marksOf, marksOver}
 use Rattle.fields.specs.declared.marks.Marks.{Marks}
 
@@ -121,21 +122,21 @@ module _ (low high : ℕ) (m : Marks) (x : Form) where
 -- ---- a list of elements
 module _ (low high : ℕ) where
   pub over-good : (m : Marks) (xs : List Form) → marksOver low high m xs .good ≡ (m .good && allOf (elementInRange low high) xs)
-  unfolding marksOver
+  unfolding overAll
   over-good m [] = sym (and-true (m .good))
   over-good m (x ∷ xs) =
       over-good (marksOf low high m x) xs ∙ ap (λ (b : Bool). b && allOf (elementInRange low high) xs) (one-good low high m x)
       ∙ and-assoc (m .good) (elementInRange low high x) (allOf (elementInRange low high) xs)
 
   over-bit : (m : Marks) (xs : List Form) (n : ℕ) → allOf (elementInRange low high) xs ≡ true → bit (marksOver low high m xs .mask) n ≡ (bit (m .mask) n || anyOf (elementHas n) xs)
-  unfolding marksOver
+  unfolding overAll
   over-bit m [] n a = sym (or-false (bit (m .mask) n))
   over-bit m (x ∷ xs) n a =
       over-bit (marksOf low high m x) xs n (both-true (elementInRange low high x) _ a .1) ∙ ap (λ (b : Bool). b || anyOf (elementHas n) xs) (one-bit low high m x (both-true (elementInRange low high x) _ a .0) n)
       ∙ or-assoc (bit (m .mask) n) (elementHas n x) (anyOf (elementHas n) xs)
 
   over-below : (m : Marks) (xs : List Form) → allOf (elementInRange low high) xs ≡ true → m .mask < 2 ^ (high + 1) → marksOver low high m xs .mask < 2 ^ (high + 1)
-  unfolding marksOver
+  unfolding overAll
   over-below m [] a h = h
   over-below m (x ∷ xs) a h = over-below (marksOf low high m x) xs (both-true (elementInRange low high x) _ a .1) (one-below low high m x (both-true (elementInRange low high x) _ a .0) h)
 

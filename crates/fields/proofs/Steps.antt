@@ -1,5 +1,5 @@
 -- What a field and the space after it say of the five.
-use mathlib.Core.Bool.{Bool, true, false, cond, _&&_, and-true, and-false, and-assoc}
+use mathlib.Core.Bool.{Bool, true, false, cond, _&&_, and-true, and-false, and-assoc, false≢true}
 use mathlib.Core.List.{List}
 use mathlib.Core.Option.{Option, none, some}
 use mathlib.Core.Path.{_≡_, refl, sym, ap, _∙_}
@@ -22,7 +22,7 @@ use Rattle.fields.specs.declared.field.Field.{Field}
 use Rattle.fields.specs.declared.five.Five.{Five}
 use Rattle.fields.specs.declared.five.Step.{Step}
 
--- what is known of the part of a field of some form, after others that are good or not
+-- what is known of the step of a field of some form, after others that are good or not
 pub record Holds (low high : ℕ) (before : Bool) (form : Form) (mask : ℕ) (flag good : Bool) : Type 0 where
   pub inside : good ≡ (before && fieldInRange low high form)
   pub numbers : good ≡ true → mask ≡ maskFrom (fieldHas form) (high + 1 - low) low
@@ -43,9 +43,6 @@ pub record Spaced (s : List ℕ) (low high : ℕ) (before : Bool) (at mask : ℕ
 -- no field, or no space after it
 abbrev pub NoneAt : List ℕ → ℕ → Type 0
 NoneAt s at = (more : Form → ℕ → Option (Line × ℕ)) → thenAt 32 s more (fieldRead s at) ≡ none
-
-false-true : {A : Type 0} → _≡_ {A = Bool} false true → A
-false-true e = let z : _≡_ {A = ℕ} 0 1 = cc in absurd (omega arith)
 
 module _ (s : List ℕ) (low high : ℕ) (before : Bool) (at : ℕ) where
   -- what a field that was read answers, its numbers in range or not
@@ -76,7 +73,7 @@ module _ (s : List ℕ) (low high : ℕ) (before : Bool) (at : ℕ) where
       by-range false r g f e =
           let n : next ≡ cursor (r .1) = cc in
           let k : good ≡ false = cc in
-          record { form = r .0; holds = record { inside = rw (f, k) (sym (and-false before)); numbers = λ h. false-true (sym k ∙ h); flagged = λ h. false-true (sym k ∙ h) }; read = rw n g }
+          record { form = r .0; holds = record { inside = rw (f, k) (sym (and-false before)); numbers = λ h. absurd (false≢true (sym k ∙ h)); flagged = λ h. absurd (false≢true (sym k ∙ h)) }; read = rw n g }
 
       by-read : (o : Option (Form × ℕ)) → fieldRead s at ≡ o → stepAs before (fieldAs low high o) ≡ Step.Is mask flag good next → Last s low high before at mask flag good next
       by-read none g e = let z : _≡_ {A = ℕ} 0 1 = cc in absurd (omega arith)

@@ -3,14 +3,14 @@ use mathlib.Core.Bool.{Bool, true, false, and-false}
 use mathlib.Core.List.{List, [], _∷_, _++_}
 use mathlib.Core.Option.{Option, none, some}
 use mathlib.Core.Path.{_≡_, refl, ap, _∙_}
-use Prim.Native.Nat.{ℕ, _+_, _<_, _≤_}
+use Prim.Native.Nat.{ℕ, _+_, _≤_}
 use native.Mathlib.Omega.{arith}
 use borrow.Author.Tests.{eqb-true}
 use lib.Dec.{eqb}
-use lib.ListN.{length, getD, drop, length-drop, length-append}
+use lib.ListN.{length, getD, drop}
 use Rattle.sheet.specs.Form.{Element, Field, star, list, elementOf, fieldOf}
-use Rattle.sheet.specs.Words.{numberOf, sameBytes, pieces, eachOf}
-use Rattle.words.proofs.Listing.{first-byte, each-onto, list-tied}
+use Rattle.sheet.specs.Words.{numberOf, sameBytes, pieces, consOf, eachOf}
+use Rattle.words.proofs.Listing.{first-byte, each-cons, all-tied}
 use Rattle.words.proofs.Pieces.{Cut, cut-of}
 use Rattle.words.proofs.Tied.{made, Tied, tied-made, tied-by}
 use Rattle.words.specs.Answers.{madeRead}
@@ -46,11 +46,11 @@ unfolding numberOf
 star-number q = rw and-false refl
 
 first-piece : (separator : ℕ) (q : List ℕ) → eqb 42 separator ≡ false → (A : Type 0) (form : List ℕ → Option A) → ((r : List ℕ) → form (42 ∷ r) ≡ none) → eachOf form (pieces separator (42 ∷ q)) ≡ none
-unfolding pieces
+unfolding pieces consOf
 first-piece separator q e A form f = by-cut (cut-of separator q)
   where
     by-cut : Cut separator q → eachOf form (pieces separator (42 ∷ q)) ≡ none
-    by-cut c = rw (pieces, e, c .cut) (each-onto form (42 ∷ c .piece) (c .others) none _ (f (c .piece)) refl)
+    by-cut c = rw (pieces, e, c .cut) (each-cons form (42 ∷ c .piece) (c .others) none _ (f (c .piece)) refl)
 
 star-element : (q : List ℕ) → elementOf (42 ∷ q) ≡ none
 unfolding elementOf
@@ -81,8 +81,7 @@ module _ (s : List ℕ) (at : ℕ) (tail : List ℕ) (stops : FieldStops tail) w
   list-case : (p : List ℕ) → drop at s ≡ p ++ tail → eqb (getD s at 0) 42 ≡ false → sameBytes p (42 ∷ []) ≡ false → Tied (fieldOf p) (fieldRead s at) at (at + length p)
   unfolding fieldRead elementsAt
   list-case p here e f =
-      let l : length p < length s + 1 = omega (arith, ap length here, length-append p tail, length-drop at s) in
-      let t = list-tied (λ (e : ℕ). elementRead (elementAt s e)) 44 s elementOf Stop after-comma (λ at p tail here stop. element-tied s at p tail here (stop .0) (stop .1)) tail (stops .digits, stops .dash) (stops .comma) (length s + 1) at p here l in
+      let t = all-tied s (λ (e : ℕ). elementRead (elementAt s e)) 44 elementOf Stop after-comma (λ at p tail here stop. element-tied s at p tail here (stop .0) (stop .1)) at p tail here (stops .digits, stops .dash) (stops .comma) in
       rw (e, list-read (elementsAt s (length s + 1) at), list-form p (eachOf elementOf (pieces 44 p)) refl f) (tied-made list _ _ at at _ (omega arith) t)
 
   star-case : (p : List ℕ) (form : Option Field) → fieldOf p ≡ form → eqb (getD s at 0) 42 ≡ true → 1 ≤ length p → (length p ≡ 1 → form ≡ some star) → ((length p ≡ 1 → ⊥) → form ≡ none) → Tied (fieldOf p) (fieldRead s at) at (at + length p)

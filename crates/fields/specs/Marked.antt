@@ -1,13 +1,13 @@
 -- The numbers of a field marked in a mask, one element after the other.
 use mathlib.Core.Bool.{false, cond, _&&_}
-use mathlib.Core.List.{List, [], _∷_}
+use mathlib.Core.List.{List}
 use mathlib.Core.Option.{Option, none, some}
 use Prim.Native.Nat.{ℕ, _+_, _-_, _^_}
 use lib.Bits.{bitOr}
 use lib.Dec.{leb, eqb}
 use Rattle.lines.specs.Bytes.{byte}
 use Rattle.sheet.specs.Form.{Element as Form, one, range}
-use Rattle.words.specs.Lists.{listAt}
+use Rattle.words.specs.Lists.{overAll, listAt}
 use Rattle.words.specs.Reads.{cursor}
 use Rattle.fields.specs.Elements.{elementAt, elementRead}
 use Rattle.fields.specs.declared.element.Element.{Element}
@@ -29,9 +29,8 @@ elementMarks low high m (Element.One n c) = Listed.Is (marksWith low high m n n)
 elementMarks low high m (Element.Range a b c) = Listed.Is (marksWith low high m a b) c
 elementMarks low high m Element.Not = Listed.Not
 
-unfoldable pub marksOver : ℕ → ℕ → Marks → List Form → Marks
-marksOver low high m [] = m
-marksOver low high m (x ∷ xs) = marksOver low high (marksOf low high m x) xs
+abbrev pub marksOver : ℕ → ℕ → Marks → List Form → Marks
+marksOver low high = overAll (marksOf low high)
 
 -- the elements from a place on
 unfoldable pub elementsAt : List ℕ → ℕ → ℕ → Option (List Form × ℕ)

@@ -4,9 +4,9 @@ use mathlib.Core.List.{List, [], _∷_}
 use mathlib.Core.Path.{_≡_, refl, sym, ap, ap₂, _∙_}
 use Prim.Native.Nat.{ℕ, _≤_}
 use native.Mathlib.Omega.{arith}
-use borrow.Author.Tests.{eq-eqb, eqb-true, leb-true}
-use lib.Dec.{leb, eqb}
-use Rattle.calendar.proofs.Every.{both-true}
+use borrow.Author.Tests.{eq-eqb, eqb-true}
+use lib.Dec.{eqb}
+use Rattle.calendar.proofs.Every.{both-true, within-range}
 use Rattle.calendar.specs.Below.{anyOf, allOf}
 use Rattle.frames.specs.Rule.{noLimit}
 use Rattle.frames.specs.declared.Ends.{Ends}
@@ -43,19 +43,20 @@ unfolding endsOf
 end-bit true ns n l h = bit-in-mask (λ k. anyOf (signedAs true k) ns) 31 1 n l (omega arith)
 end-bit false ns n l h = bit-in-mask (λ k. anyOf (signedAs false k) ns) 31 1 n l (omega arith)
 
+-- of two places one counts, by the sign
+pub either-sign : (place : Bool → ℕ) (m : Bool) (x : ℕ) → (not m && eqb x (place false) || m && eqb x (place true)) ≡ eqb x (place m)
+either-sign place true x = refl
+either-sign place false x = or-false (eqb x (place false))
+
 -- the place n from the front and k from the end is one of the list's
 module _ (n k : ℕ) where
   abbrev pub isPlace : Signed → Bool
   isPlace s = eqb (s .number) (cond (s .minus) k n)
 
-  either-sign : (m : Bool) (x : ℕ) → (not m && eqb x n || m && eqb x k) ≡ eqb x (cond m k n)
-  either-sign true x = refl
-  either-sign false x = or-false (eqb x n)
-
   pub ends-hold : (ns : List Signed) → 1 ≤ n → n ≤ 31 → 1 ≤ k → k ≤ 31 → (bit (endsOf ns .front) n || bit (endsOf ns .back) k) ≡ anyOf isPlace ns
   ends-hold ns a b c d =
       ap₂ _||_ (end-bit false ns n a b) (end-bit true ns k c d)
-      ∙ any-either (signedAs false n) (signedAs true k) isPlace (λ s. either-sign (s .minus) (s .number)) ns
+      ∙ any-either (signedAs false n) (signedAs true k) isPlace (λ s. either-sign (λ m. cond m k n) (s .minus) (s .number)) ns
 
 own-sign : (s : Signed) (minus : Bool) → s .minus ≡ minus → signedAs minus (s .number) s ≡ true
 own-sign s true e = rw (e, eq-eqb (s .number) (s .number) refl) refl
@@ -65,8 +66,8 @@ pub ends-limit : (ns : List Signed) → listed dayNumberInRange ns ≡ true → 
 ends-limit [] e = absurd (false≢true e)
 ends-limit (s ∷ ns) e =
     let p = both-true (dayNumberInRange s) (allOf dayNumberInRange ns) e in
-    let q = both-true (leb 1 (s .number)) (leb (s .number) 31) (p .0) in
+    let q = within-range 1 31 (s .number) (p .0) in
     let a : anyOf (signedAs (s .minus) (s .number)) (s ∷ ns) ≡ true = rw (own-sign s (s .minus) refl) refl in
     end-limits (endsOf (s ∷ ns)) (s .minus)
     (bit-not-zero (λ m. m) refl (endOf (s .minus) (endsOf (s ∷ ns))) (s .number)
-    (end-bit (s .minus) (s ∷ ns) (s .number) (leb-true 1 (s .number) (q .0)) (leb-true (s .number) 31 (q .1)) ∙ a))
+    (end-bit (s .minus) (s ∷ ns) (s .number) (q .0) (q .1) ∙ a))

@@ -1,13 +1,13 @@
 -- The masks of a weekday list: plain weekdays, and those with an ordinal, one mask for each.
-use mathlib.Core.Bool.{Bool, true, false, not, _&&_, _||_, and-true, and-false, or-false, false≢true}
+use mathlib.Core.Bool.{Bool, true, false, not, _&&_, _||_, and-comm, and-false, or-false, false≢true}
 use mathlib.Core.List.{List, [], _∷_}
 use mathlib.Core.Path.{_≡_, refl, sym, ap, ap₂, _∙_}
 use Prim.Native.Nat.{ℕ, zero, suc, _+_, _-_, _*_, _^_, _<_, _≤_}
 use native.Mathlib.Nat.{zero-div}
 use native.Mathlib.Omega.{arith}
-use borrow.Author.Tests.{eq-eqb, eqb-true, leb-true, ltb-true}
-use lib.Dec.{leb, ltb, eqb}
-use Rattle.calendar.proofs.Every.{both-true, same-either-way}
+use borrow.Author.Tests.{eq-eqb, eqb-true, ltb-true}
+use lib.Dec.{ltb, eqb}
+use Rattle.calendar.proofs.Every.{both-true, within-range, same-either-way}
 use Rattle.calendar.specs.Below.{within, anyOf, allOf}
 use Rattle.calendar.specs.Window.{localWeekday, localDate, fromEnd, windowDays}
 use Rattle.frames.proofs.MonthDays.{weekday-at-most}
@@ -22,7 +22,7 @@ use Rattle.sheet.specs.Range.{entryInRange}
 use Rattle.sheet.specs.Words.{Signed}
 use Rattle.framed.specs.Framed.{isPlain, isOrdinal, ordinalsOf}
 use Rattle.framed.proofs.Counted.{placeOf, place-high, ordinal-counted}
-use Rattle.framed.proofs.Ends.{endOf, bit-not-zero, end-limits}
+use Rattle.framed.proofs.Ends.{endOf, bit-not-zero, end-limits, either-sign}
 use Rattle.framed.proofs.Listed.{listed, any-either}
 
 -- the two groups of a list
@@ -72,9 +72,8 @@ module _ (d : ℕ) (h : d < windowDays) where
   abbrev placed : Bool → ℕ
   placed minus = ordinalOf (placeOf minus d)
 
-  either-sign : (m : Bool) (x : ℕ) → (eqb x (placed false) && not m || eqb x (placed true) && m) ≡ eqb x (placed m)
-  either-sign true x = simp (and-false, and-true)
-  either-sign false x = simp (and-false, and-true, or-false)
+  its-place : (m : Bool) (x : ℕ) → (eqb x (placed false) && not m || eqb x (placed true) && m) ≡ eqb x (placed m)
+  its-place m x = ap₂ _||_ (and-comm (eqb x (placed false)) (not m)) (and-comm (eqb x (placed true)) m) ∙ either-sign placed m x
 
   entry-is : (e : Entry) → (isPlain (localWeekday d) e || (isOrdinal false (placed false) (localWeekday d) e || isOrdinal true (placed true) (localWeekday d) e)) ≡ entryHas d e
   unfolding entryHas
@@ -84,7 +83,7 @@ module _ (d : ℕ) (h : d < windowDays) where
       (λ (t : eqb (localWeekday d) w ≡ true).
       let e = eqb-true (localWeekday d) w t in
       rw (t, same-either-way w (localWeekday d) ∙ t)
-      (either-sign (n .minus) (n .number) ∙ ap (eqb (n .number)) (sym (ordinal-counted (n .minus) d w h e))))
+      (its-place (n .minus) (n .number) ∙ ap (eqb (n .number)) (sym (ordinal-counted (n .minus) d w h e))))
       (λ (f : eqb (localWeekday d) w ≡ false). rw (f, same-either-way w (localWeekday d) ∙ f) refl)
 
   pub entries-hold : (es : List Entry)
@@ -123,10 +122,10 @@ entries-limit (plain w ∷ es) l =
 entries-limit (ordinal n w ∷ es) l =
     let p = both-true (within 1 5 (n .number) && ltb w 7) (allOf entryGood es) l in
     let q = both-true (within 1 5 (n .number)) (ltb w 7) (p .0) in
-    let r = both-true (leb 1 (n .number)) (leb (n .number) 5) (q .0) in
+    let r = within-range 1 5 (n .number) (q .0) in
     let a : anyOf (isOrdinal (n .minus) (n .number) w) (ordinal n w ∷ es) ≡ true = rw (own-ordinal n w (n .minus) refl) refl in
     let b : bit (ordinalMask (ordinalsOf (n .minus) (ordinal n w ∷ es)) (n .number)) w ≡ true =
-    ordinal-bit (n .minus) (ordinal n w ∷ es) (n .number) w (leb-true 1 (n .number) (r .0)) (leb-true (n .number) 5 (r .1)) (ltb-true w 7 (q .1)) ∙ a in
+    ordinal-bit (n .minus) (ordinal n w ∷ es) (n .number) w (r .0) (r .1) (ltb-true w 7 (q .1)) ∙ a in
     rw (end-limits (ordinalEnds (ordinal n w ∷ es)) (n .minus) (own-end (n .minus) (bit-not-zero (λ g. ordinalMask g (n .number)) (no-ordinal (n .number)) (ordinalsOf (n .minus) (ordinal n w ∷ es)) w b)))
     (and-false (eqb (maskFrom (λ v. anyOf (isPlain v) (ordinal n w ∷ es)) 7 0) 0))
   where

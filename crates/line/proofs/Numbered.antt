@@ -11,26 +11,26 @@ use Rattle.framed.specs.Framed.{frameOf}
 use Rattle.plan.specs.declared.Frame.{Frame}
 use Rattle.sheet.specs.Form.{Form, formOf}
 use Rattle.sheet.specs.Refusals.{Context, bytesGood, formRefusal, formRefusalOr3, lineRefusal}
-use Rattle.line.specs.Lined.{linedForm, lined, numberOf}
+use Rattle.line.specs.Lined.{linedForm, lined, refusalOf}
 use Rattle.line.specs.declared.Lined.{Lined}
 
 module _ (c : Context) where
-  form-number : (o : Option Form) → numberOf (linedForm c o) ≡ formRefusalOr3 c o
+  form-number : (o : Option Form) → refusalOf (linedForm c o) ≡ formRefusalOr3 c o
   unfolding linedForm formRefusalOr3
   form-number none = refl
   form-number (some f) = by-number (eqb (formRefusal c f) 0) refl
     where
-      by-number : (b : Bool) → eqb (formRefusal c f) 0 ≡ b → numberOf (cond b (Lined.Is (frameOf f)) (Lined.Refused (formRefusal c f))) ≡ formRefusal c f
+      by-number : (b : Bool) → eqb (formRefusal c f) 0 ≡ b → refusalOf (cond b (Lined.Is (frameOf f)) (Lined.Refused (formRefusal c f))) ≡ formRefusal c f
       by-number true e = sym (eqb-true (formRefusal c f) 0 e)
       by-number false e = refl
 
   module _ (line : List ℕ) where
     -- "in it the lowest of 2 to 8 that applies"
-    pub lined-number : numberOf (lined c line) ≡ lineRefusal c line
+    pub lined-number : refusalOf (lined c line) ≡ lineRefusal c line
     unfolding lined lineRefusal
     lined-number = by-bytes (bytesGood line)
       where
-        by-bytes : (b : Bool) → numberOf (cond b (linedForm c (formOf line)) (Lined.Refused 2)) ≡ cond (not b) 2 (formRefusalOr3 c (formOf line))
+        by-bytes : (b : Bool) → refusalOf (cond b (linedForm c (formOf line)) (Lined.Refused 2)) ≡ cond (not b) 2 (formRefusalOr3 c (formOf line))
         by-bytes true = form-number (formOf line)
         by-bytes false = refl
 

@@ -59,6 +59,6 @@ ruledLine Ruled.Apart = Lined.Refused 6
 ruledLine Ruled.NoStart = Lined.Refused 8
 
 -- 0 with a frame, else the refusal number
-abbrev pub numberOf : Lined → ℕ
-numberOf (Lined.Is f) = 0
-numberOf (Lined.Refused n) = n
+abbrev pub refusalOf : Lined → ℕ
+refusalOf (Lined.Is f) = 0
+refusalOf (Lined.Refused n) = n

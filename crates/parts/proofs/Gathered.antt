@@ -1,5 +1,5 @@
 -- Parts taken up one after the other, as all parts of the rule: of one given twice the first counts.
-use mathlib.Core.Bool.{Bool, true, false, cond, _&&_, _||_, or-true, or-false, and-true}
+use mathlib.Core.Bool.{Bool, true, false, cond, _&&_, _||_, or-assoc, or-true, or-false, and-assoc, and-true, true≢false}
 use mathlib.Core.List.{List, [], _∷_, _++_, append-nil, append-assoc}
 use mathlib.Core.Option.{Option, none, some, Option·getD}
 use mathlib.Core.Path.{_≡_, refl, sym, ap, _∙_}
@@ -18,8 +18,8 @@ use Rattle.sheet.specs.Form.{Time, Entry, Frequency, Part, freq, interval, coun
 use Rattle.sheet.specs.Parts.{Given, givenOf, nameOf, givenTwice}
 use Rattle.sheet.specs.Range.{partInRange}
 use Rattle.sheet.specs.Words.{Signed}
-use Rattle.words.proofs.Folding.{overAll, takenAs}
-use Rattle.words.specs.Lists.{listAt}
+use Rattle.words.proofs.Folding.{takenAs}
+use Rattle.words.specs.Lists.{overAll, listAt}
 use Rattle.words.specs.Reads.{cursor}
 use Rattle.parts.specs.Given.{nameIn, goodIn, withValue, taken, frequencyFrom, countFrom, untilFrom, daysFrom, numbersFrom, partsGiven, partsRead, partsAs}
 use Rattle.parts.specs.Values.{partAs, partRead}
@@ -116,37 +116,20 @@ given-same f g e = rw (e 0, e 1, e 2, e 3, e 4, e 5, e 6) refl
 
 -- ---- one part more at the end
 module _ (p : Part) where
-  named-more : (k : ℕ) (ps : List Part) → named k (ps ++ (p ∷ [])) ≡ (named k ps || eqb (nameOf p) k)
-  named-more k [] = or-false (eqb (nameOf p) k)
-  named-more k (q ∷ ps) = by-first (eqb (nameOf q) k) (named-more k ps)
-    where
-      by-first : (b : Bool) → named k (ps ++ (p ∷ [])) ≡ (named k ps || eqb (nameOf p) k) → (b || named k (ps ++ (p ∷ []))) ≡ (b || named k ps || eqb (nameOf p) k)
-      by-first true e = refl
-      by-first false e = e
+  any-more : (f : Part → Bool) (ps : List Part) → anyOf f (ps ++ (p ∷ [])) ≡ (anyOf f ps || f p)
+  any-more f [] = or-false (f p)
+  any-more f (q ∷ ps) = ap (λ (b : Bool). f q || b) (any-more f ps) ∙ sym (or-assoc (f q) (anyOf f ps) (f p))
 
   range-more : (ps : List Part) → allOf partInRange (ps ++ (p ∷ [])) ≡ (allOf partInRange ps && partInRange p)
   range-more [] = and-true (partInRange p)
-  range-more (q ∷ ps) = by-first (partInRange q) (range-more ps)
-    where
-      by-first : (b : Bool) → allOf partInRange (ps ++ (p ∷ [])) ≡ (allOf partInRange ps && partInRange p) → (b && allOf partInRange (ps ++ (p ∷ []))) ≡ (b && allOf partInRange ps && partInRange p)
-      by-first true e = e
-      by-first false e = refl
+  range-more (q ∷ ps) = ap (λ (b : Bool). partInRange q && b) (range-more ps) ∙ sym (and-assoc (partInRange q) (allOf partInRange ps) (partInRange p))
 
   twice-more : (ps : List Part) → givenTwice (ps ++ (p ∷ [])) ≡ (givenTwice ps || named (nameOf p) ps)
   unfolding givenTwice
   twice-more [] = refl
   twice-more (q ∷ ps) =
-      rw (any-more ps, twice-more ps)
+      rw (any-more (λ r. eqb (nameOf q) (nameOf r)) ps, twice-more ps)
       (regrouped (anyOf (λ r. eqb (nameOf q) (nameOf r)) ps) (eqb (nameOf q) (nameOf p)) (givenTwice ps) (named (nameOf p) ps))
-    where
-      any-more : (ps : List Part) → anyOf (λ r. eqb (nameOf q) (nameOf r)) (ps ++ (p ∷ [])) ≡ (anyOf (λ r. eqb (nameOf q) (nameOf r)) ps || eqb (nameOf q) (nameOf p))
-      any-more [] = or-false (eqb (nameOf q) (nameOf p))
-      any-more (r ∷ ps) = by-first (eqb (nameOf q) (nameOf r)) (any-more ps)
-        where
-          by-first : (b : Bool) → anyOf (λ r. eqb (nameOf q) (nameOf r)) (ps ++ (p ∷ [])) ≡ (anyOf (λ r. eqb (nameOf q) (nameOf r)) ps || eqb (nameOf q) (nameOf p))
-              → (b || anyOf (λ r. eqb (nameOf q) (nameOf r)) (ps ++ (p ∷ []))) ≡ (b || anyOf (λ r. eqb (nameOf q) (nameOf r)) ps || eqb (nameOf q) (nameOf p))
-          by-first true e = refl
-          by-first false e = e
 
   -- a name that was there stays as it was, and one that was not is the part's or nobody's
   lookup-there : (k : ℕ) (ps : List Part) → named k ps ≡ true → lookup k (ps ++ (p ∷ [])) ≡ lookup k ps
@@ -170,7 +153,7 @@ module _ (p : Part) where
 
   -- a name that is there and one that is not are two
   two-names : (k j : ℕ) (ps : List Part) → named k ps ≡ true → named j ps ≡ false → eqb j k ≡ false
-  two-names k j ps e f = ne-eqb j k (λ (q : j ≡ k). let g : true ≡ false = sym e ∙ ap (λ (n : ℕ). named n ps) (sym q) ∙ f in let z : _≡_ {A = ℕ} 0 1 = cc in omega arith)
+  two-names k j ps e f = ne-eqb j k (λ (q : j ≡ k). true≢false (sym e ∙ ap (λ (n : ℕ). named n ps) (sym q) ∙ f))
 
   lookup-more : (k : ℕ) (ps : List Part) (b : Bool) → named (nameOf p) ps ≡ b → lookup k (ps ++ (p ∷ [])) ≡ cond b (lookup k ps) (lookup k (p ∷ ps))
   unfolding lookup
@@ -179,10 +162,7 @@ module _ (p : Part) where
       by-name : (c : Bool) → named k ps ≡ c → (b : Bool) → named (nameOf p) ps ≡ b → lookup k (ps ++ (p ∷ [])) ≡ cond b (lookup k ps) (lookup k (p ∷ ps))
       by-name true c true e = lookup-there k ps c
       by-name true c false e = lookup-there k ps c ∙ sym (rw (two-names k (nameOf p) ps c e) refl)
-      by-name false c true e = let n = lookup-new k ps c in n .0 ∙ rw (other, n .1) refl
-        where
-          other : eqb (nameOf p) k ≡ false
-          other = ne-eqb (nameOf p) k (λ (q : nameOf p ≡ k). let g : true ≡ false = sym e ∙ ap (λ (n : ℕ). named n ps) q ∙ c in let z : _≡_ {A = ℕ} 0 1 = cc in omega arith)
+      by-name false c true e = let n = lookup-new k ps c in n .0 ∙ rw (same-either-way (nameOf p) k ∙ two-names (nameOf p) k ps e c, n .1) refl
       by-name false c false e = let n = lookup-new k ps c in n .0 ∙ rw (n .1) refl
 
   given-more : (ps : List Part) (b : Bool) → named (nameOf p) ps ≡ b → givenOf (ps ++ (p ∷ [])) ≡ cond b (givenOf ps) (givenOf (p ∷ ps))
@@ -252,7 +232,7 @@ module _ (p : Part) (ps : List Part) where
   name-bit = bit-in-mask (λ k. named k ps) 7 0 (nameOf p) (omega arith) (name-below p)
 
   names-same : named (nameOf p) ps ≡ true → namesOf (ps ++ (p ∷ [])) ≡ namesOf ps
-  names-same e = mask-from-same (λ k. named k (ps ++ (p ∷ []))) (λ k. named k ps) 7 0 (λ k l h. named-more p k ps ∙ by-name k (eqb (nameOf p) k) refl)
+  names-same e = mask-from-same (λ k. named k (ps ++ (p ∷ []))) (λ k. named k ps) 7 0 (λ k l h. any-more p (λ q. eqb (nameOf q) k) ps ∙ by-name k (eqb (nameOf p) k) refl)
     where
       by-name : (k : ℕ) (b : Bool) → eqb (nameOf p) k ≡ b → (named k ps || b) ≡ named k ps
       by-name k true f = or-true (named k ps) ∙ sym (sym (ap (λ (n : ℕ). named n ps) (eqb-true (nameOf p) k f)) ∙ e)
@@ -265,7 +245,7 @@ module _ (p : Part) (ps : List Part) where
       bit-of-with-bit (namesOf ps) (nameOf p) i (omega (arith, name-below p))
       ∙ ap (λ (b : Bool). b || eqb i (nameOf p)) (bit-in-mask (λ k. named k ps) 7 0 i (omega arith) l)
       ∙ ap (λ (b : Bool). named i ps || b) (same-either-way i (nameOf p))
-      ∙ sym (bit-in-mask (λ k. named k (ps ++ (p ∷ []))) 7 0 i (omega arith) l ∙ named-more p i ps))
+      ∙ sym (bit-in-mask (λ k. named k (ps ++ (p ∷ []))) 7 0 i (omega arith) l ∙ any-more p (λ q. eqb (nameOf q) i) ps))
 
   part-step : taken (partsGiven ps) (partAs p) ≡ partsGiven (ps ++ (p ∷ []))
   unfolding taken partsGiven

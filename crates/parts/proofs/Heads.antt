@@ -3,7 +3,7 @@ use mathlib.Core.Bool.{Bool, true, false, cond, not, and-false}
 use mathlib.Core.List.{List, [], _∷_, _++_}
 use mathlib.Core.Option.{Option, none, some}
 use mathlib.Core.Path.{_≡_, refl, sym, ap, _∙_}
-use Prim.Native.Nat.{ℕ, suc, _+_, _<_}
+use Prim.Native.Nat.{ℕ, suc, _+_}
 use native.Mathlib.Omega.{arith}
 use borrow.Author.Tests.{eq-eqb, ne-eqb, eqb-false, not-true}
 use lib.Dec.{eqb}
@@ -12,13 +12,10 @@ use Rattle.calendar.proofs.Every.{both-true}
 use Rattle.calendar.specs.Below.{allOf}
 use Rattle.sheet.specs.Words.{sameBytes}
 use Rattle.words.proofs.Choices.{wordOf, without, starts-front, same-is}
+use Rattle.words.proofs.Pieces.{Whole}
 use Rattle.words.proofs.Tied.{made}
 use Rattle.words.specs.Answers.{madeRead, oneAt}
 use Rattle.words.specs.Reads.{startsWith}
-
--- no separator stands in the piece, as `Cut` has it
-abbrev pub Whole : ℕ → List ℕ → Type 0
-Whole c q = (k : ℕ) → k < length q → eqb (getD q k 0) c ≡ false
 
 module _ (c : ℕ) where
   after-first : (y : ℕ) (q : List ℕ) → Whole c (y ∷ q) → Whole c q

@@ -2,16 +2,14 @@
 use mathlib.Core.List.{List}
 use mathlib.Core.Option.{Option, none, some}
 use mathlib.Core.Path.{_≡_, refl}
-use Prim.Native.Nat.{ℕ, _+_, _≤_}
+use Prim.Native.Nat.{ℕ, _≤_}
 use native.Mathlib.Omega.{arith}
 use lib.Dec.{eqb}
-use lib.ListN.{length}
 use Rattle.entries.proofs.Places.{days-after, numbers-after}
 use Rattle.sheet.specs.Form.{frequencyWords, Part, freq, interval, count, until, byDay, byMonthDay, bySetPos}
-use Rattle.words.proofs.Afters.{Reads, read-none, read-made, read-cond, one-after, number-after, time-after, list-read}
+use Rattle.words.proofs.Afters.{Reads, read-none, read-made, read-cond, one-after, number-after, time-after}
 use Rattle.words.specs.Answers.{numberRead, oneAt}
 use Rattle.words.specs.Reads.{numberAt}
-use Rattle.parts.specs.Given.{partsRead}
 use Rattle.parts.specs.Values.{partHeads, frequencyOf, valueRead, partRead}
 
 -- ---- a part, by its name
@@ -41,7 +39,3 @@ part-after s at = by-head (oneAt partHeads s at) refl
     by-head none q = rw (part-not s at q) (read-none (λ (x : Part) (e : ℕ). at ≤ e))
     by-head (some r) q =
         rw (part-value s at (r .0) (r .1) q) (λ x e p. omega (arith, one-after partHeads s at (r .0) (r .1) q, value-after (r .0) s (r .1) x e p))
-
-pub parts-after : (s : List ℕ) (at : ℕ) (ps : List Part) (e : ℕ) → partsRead s at ≡ some (ps, e) → at ≤ e
-unfolding partsRead
-parts-after s at ps e q = list-read (λ n. Unit {0}) (partRead s) 59 s (λ f x e q. (part-after s f x e q, tt)) (length s + 1) at ps e q .0

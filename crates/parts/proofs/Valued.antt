@@ -1,12 +1,12 @@
 -- The value of a part: the readers by the part's name against the forms of a whole piece.
 use mathlib.Core.Bool.{true, false}
-use mathlib.Core.List.{List, _∷_, _++_}
+use mathlib.Core.List.{List, _++_}
 use mathlib.Core.Option.{Option, none, some}
-use mathlib.Core.Path.{_≡_, refl, ap}
+use mathlib.Core.Path.{_≡_, refl}
 use Prim.Native.Nat.{ℕ, zero, suc, _+_, _<_}
 use native.Mathlib.Omega.{arith}
 use lib.Dec.{eqb}
-use lib.ListN.{length, getD, drop, length-append, length-drop}
+use lib.ListN.{length, getD, drop}
 use Rattle.entries.proofs.Entries.{days-tied, numbers-tied}
 use Rattle.sheet.specs.Form.{timeOf, entryOf, frequencyWords, frequencyAt, Part, freq, interval, count, until, byDay, byMonthDay, bySetPos, partBy, valueOf}
 use Rattle.sheet.specs.Words.{wordIn, numberOf, signedOf, pieces, eachOf}

@@ -1,6 +1,6 @@
 -- A part of a rule, and all parts: the readers against the forms of a whole piece.
 use mathlib.Core.Bool.{true, false}
-use mathlib.Core.List.{List, [], _∷_, _++_, append-assoc}
+use mathlib.Core.List.{List, [], _∷_, _++_}
 use mathlib.Core.Option.{Option, none, some}
 use mathlib.Core.Path.{_≡_, refl, ap, _∙_}
 use Prim.Native.Nat.{ℕ, _+_, _<_}
@@ -13,13 +13,13 @@ use Rattle.words.proofs.Choices.{wordOf, without}
 use Rattle.words.proofs.Ends.{End, nothing, space, semicolon, equals, end-byte}
 use Rattle.words.proofs.Listing.{after-rest, all-tied}
 use Rattle.words.proofs.Named.{word-tested, word-place}
-use Rattle.words.proofs.Pieces.{After, ended, more, Cut, cut-of}
+use Rattle.words.proofs.Pieces.{After, ended, more, cut-here, Whole, Cut, cut-of}
 use Rattle.words.proofs.Sequence.{only, only-tied}
 use Rattle.words.proofs.Tied.{Tied, tied-from, tied-none}
 use Rattle.words.specs.Answers.{oneAt}
 use Rattle.parts.specs.Given.{partsRead}
 use Rattle.parts.specs.Values.{partHeads, valueRead, partRead}
-use Rattle.parts.proofs.Heads.{Whole, heads, placed, heads-same, heads-never}
+use Rattle.parts.proofs.Heads.{heads, placed, heads-same, heads-never}
 use Rattle.parts.proofs.Places.{part-value, part-not}
 use Rattle.parts.proofs.Valued.{value-tied}
 
@@ -90,14 +90,14 @@ module _ (s : List ℕ) (at : ℕ) (p tail : List ℕ) (here : drop at s ≡ p +
   -- no `=` in the piece
   alone : (q : List ℕ) → p ≡ q ++ [] → pieces 61 p ≡ q ∷ [] → Whole 61 q → Tied (partOf p) (partRead s at) at (at + length p)
   alone q e d whole =
-      let f : drop at s ≡ q ++ tail = here ∙ ap (λ (l : List ℕ). l ++ tail) e ∙ append-assoc q [] tail in
+      let f : drop at s ≡ q ++ tail = cut-here q [] tail here e in
       let g : oneAt partHeads s at ≡ none = rw heads-are (heads-never 61 s at q whole tail f partWords (stops-heads stops)) in
       rw (part-not s at g, part-alone p q d) (tied-none at (at + length p))
 
   -- a name, `=`, and the text of the value
   module _ (q rest : List ℕ) (e : p ≡ q ++ (61 ∷ rest)) (d : pieces 61 p ≡ q ∷ pieces 61 rest) (whole : Whole 61 q) where
     text : drop at s ≡ q ++ (61 ∷ (rest ++ tail))
-    text = here ∙ ap (λ (l : List ℕ). l ++ tail) e ∙ append-assoc q (61 ∷ rest) tail
+    text = cut-here q (61 ∷ rest) tail here e
 
     head : (o : Option ℕ) → wordOf partWords q ≡ o → oneAt partHeads s at ≡ placed (at + length q + 1) o
     head o f = rw heads-are (heads-same 61 s at q whole (rest ++ tail) text partWords words-without ∙ ap (placed (at + length q + 1)) f)

@@ -3,6 +3,7 @@ ghost use mathlib.Core.Path.{_≡_};
 ghost use Rattle.sheet.specs.Form.{frequencyWords};
 ghost use Rattle.words.specs.Answers.{oneAt, namedAs};
 ghost use Rattle.parts.specs.Values.{partHeads};
+use crate::part;
 use words::choice::Named;
 use words::cursor::Cursor;
 
@@ -20,12 +21,12 @@ pub(crate) fn name_at(s: &[u8], c: Cursor) -> Named
     ensures { λ r. ⌜ r ≡ namedAs (oneAt partHeads (now (s .entry)) (c .at)) ⌝ }
 {
     let mut n = Named::Not;
-    n = n.or_word(s, c, b"FREQ=", 0);
-    n = n.or_word(s, c, b"INTERVAL=", 1);
-    n = n.or_word(s, c, b"COUNT=", 2);
-    n = n.or_word(s, c, b"UNTIL=", 3);
-    n = n.or_word(s, c, b"BYDAY=", 4);
-    n = n.or_word(s, c, b"BYMONTHDAY=", 5);
-    n = n.or_word(s, c, b"BYSETPOS=", 6);
+    n = n.or_word(s, c, b"FREQ=", part::FREQ);
+    n = n.or_word(s, c, b"INTERVAL=", part::INTERVAL);
+    n = n.or_word(s, c, b"COUNT=", part::COUNT);
+    n = n.or_word(s, c, b"UNTIL=", part::UNTIL);
+    n = n.or_word(s, c, b"BYDAY=", part::BYDAY);
+    n = n.or_word(s, c, b"BYMONTHDAY=", part::BYMONTHDAY);
+    n = n.or_word(s, c, b"BYSETPOS=", part::BYSETPOS);
     n
 }

@@ -25,7 +25,7 @@ use Rattle.sheet.specs.Meaning.{occursOn, occursAt, withinUntil}
 use Rattle.sheet.specs.Parts.{Given, givenOf, partsTogether}
 use Rattle.sheet.specs.Range.{timeInRange, minuteOf, partInRange, inRange}
 use Rattle.sheet.specs.Refusals.{startOccurs}
-use Rattle.rules.specs.Ruled.{endless, startIn, countLast, lastIn, endingAt, ruledFrom}
+use Rattle.rules.specs.Ruled.{endless, startHeldIn, countLast, lastIn, endingAt, ruledFrom}
 use Rattle.rules.specs.declared.Ruled.{Ruled}
 use Rattle.rules.proofs.Framing.{endless-is}
 use Rattle.rules.proofs.Going.{together-is}
@@ -76,8 +76,8 @@ module _ (t : Time) (ps : List Part) (inside : inRange (rule t ps) ≡ true) (w 
   unfolding ruleOccurs occursAt endless
   occurs-in = ap (λ (b : Bool). b && eqb (start % dayMinutes) (start % dayMinutes)) (day-in first (omega (arith, in-window)))
 
-  start-is : startIn p f ≡ startOccurs (rule t ps)
-  unfolding startIn startOccurs endless partsGiven
+  start-is : startHeldIn p f ≡ startOccurs (rule t ps)
+  unfolding startHeldIn startOccurs endless partsGiven
   start-is = rw (lt-ltb start windowMinutes in-window) (ap₂ _&&_ occurs-in (until-after (g .until) start until-good))
 
   count-last-is : (c : ℕ) → countLast f c ≡ nthLast day start c

@@ -48,8 +48,8 @@ endless p start =
     }
 
 -- 8: "start not an occurrence of its rule (COUNT and UNTIL left out), or UNTIL before start"; one outside the window is no occurrence
-unfoldable pub startIn : Parts → Rule → Bool
-startIn p f = (inWindow (f .start) && ruleOccurs f (f .start)) && cond (p .until .given) (leb (f .start) (p .until .number)) true
+unfoldable pub startHeldIn : Parts → Rule → Bool
+startHeldIn p f = (inWindow (f .start) && ruleOccurs f (f .start)) && cond (p .until .given) (leb (f .start) (p .until .number)) true
 
 -- "the COUNT-th occurrence's local minute, or 52,595,999 if .. fewer occurrences exist"
 unfoldable pub countLast : Rule → ℕ → ℕ
@@ -76,4 +76,4 @@ endingAt last f =
 unfoldable pub ruledFrom : Parts → ℕ → Ruled
 ruledFrom p start =
     let f = endless p start in
-    cond (not (togetherIn p)) Ruled.Apart (cond (not (startIn p f)) Ruled.NoStart (Ruled.Is (endingAt (lastIn p f) f)))
+    cond (not (togetherIn p)) Ruled.Apart (cond (not (startHeldIn p f)) Ruled.NoStart (Ruled.Is (endingAt (lastIn p f) f)))

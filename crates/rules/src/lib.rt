@@ -1,6 +1,6 @@
 // A rule's frame from its parts in numbers and its start.
 ghost use mathlib.Core.Path.{_≡_};
-ghost use Rattle.rules.specs.Ruled.{byFrequencyIn, togetherIn, startIn, ruledFrom};
+ghost use Rattle.rules.specs.Ruled.{byFrequencyIn, togetherIn, startHeldIn, ruledFrom};
 use frames::Rule;
 use frames::kinds;
 use frames::truth::both;
@@ -52,7 +52,7 @@ fn together(p: Parts) -> bool
 }
 
 fn start_in(p: Parts, f: Rule) -> bool
-    ensures { λ r. ⌜ r ≡ startIn p f ⌝ }
+    ensures { λ r. ⌜ r ≡ startHeldIn p f ⌝ }
 {
     let until = p.until;
     if !start_held(f) {

@@ -5,10 +5,9 @@ use mathlib.Core.Option.{Option, none, some}
 use mathlib.Core.Path.{_≡_, refl, ap, subst}
 use Prim.Native.Nat.{ℕ, zero, suc, _+_, _<_, _≤_}
 use native.Mathlib.Omega.{arith}
-use borrow.Author.Tests.{leb-true}
 use lib.Dec.{eqb}
 use lib.ListN.{length, getD, drop}
-use Rattle.calendar.proofs.Every.{both-true}
+use Rattle.calendar.proofs.Every.{within-range}
 use Rattle.calendar.specs.Below.{within}
 use Rattle.sheet.specs.Form.{Time}
 use Rattle.sheet.specs.Words.{Signed}
@@ -64,7 +63,7 @@ module _ (s : List ℕ) (at : ℕ) where
   number-after = by-range (within 1 4 (digitsIn (drop at s))) refl _
     where
       by-range : (b : Bool) → within 1 4 (digitsIn (drop at s)) ≡ b → (v : ℕ) → Reads (λ n e. at < e) (numberRead (cond b (Number.Is v (cursor (at + digitsIn (drop at s)))) Number.Not))
-      by-range true g v = read-some (λ n e. at < e) v (at + digitsIn (drop at s)) (omega (arith, leb-true 1 (digitsIn (drop at s)) (both-true _ _ g .0)))
+      by-range true g v = read-some (λ n e. at < e) v (at + digitsIn (drop at s)) (omega (arith, within-range 1 4 (digitsIn (drop at s)) g))
       by-range false g v = read-none (λ (n e : ℕ). at < e)
 
   pub time-after : (t : Time) (e : ℕ) → timeRead (timeAt s at) ≡ some (t, e) → at ≤ e

@@ -1,6 +1,6 @@
 -- The elements of a list taken up one after the other, as they are read.
 use mathlib.Core.Bool.{Bool, true, false}
-use mathlib.Core.List.{List, [], _∷_}
+use mathlib.Core.List.{List}
 use mathlib.Core.Option.{Option, none, some}
 use mathlib.Core.Path.{_≡_, refl, sym, ap, _∙_}
 use Prim.Native.Nat.{ℕ, zero, suc, _+_, _-_, _<_, _≤_}
@@ -8,13 +8,8 @@ use native.Mathlib.Omega.{arith}
 use borrow.Author.Tests.{eq-eqb, ne-eqb, eqb-true}
 use lib.Dec.{eqb}
 use lib.ListN.{length, getD}
-use Rattle.words.specs.Lists.{before, listAt}
+use Rattle.words.specs.Lists.{before, overAll, listAt}
 use Rattle.words.proofs.Counting.{byte-within}
-
--- what comes of a list, each element taken up in what came of those before it
-unfoldable pub overAll : {A M : Type 0} → (M → A → M) → M → List A → M
-overAll take m [] = m
-overAll take m (x ∷ xs) = overAll take (take m x) xs
 
 module _ {A M R : Type 0} (take : M → A → M) (is : M → ℕ → R) (not : R) where
   abbrev pub takenAs : M → Option (List A × ℕ) → R

@@ -88,7 +88,7 @@ module _ (s : List ℕ) (at : ℕ) (tail : List ℕ) (stops : Stops tail) where
 
 -- ---- parts of a piece
 module _ (s : List ℕ) (at : ℕ) (p tail : List ℕ) (here : drop at s ≡ p ++ tail) where
-  part-drop : (k : ℕ) → k ≤ length p → drop (at + k) s ≡ drop k p ++ tail
+  pub part-drop : (k : ℕ) → k ≤ length p → drop (at + k) s ≡ drop k p ++ tail
   part-drop k h = sym (drop-drop k at s) ∙ ap (drop k) here ∙ drop-append-le k p tail h
 
   part-decimal : (k n : ℕ) → k + n ≤ length p → decimalAt s (at + k) n ≡ decimal 0 (take n (drop k p))

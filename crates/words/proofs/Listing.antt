@@ -1,8 +1,8 @@
 -- A list read one element after the other, against the form of a whole piece: each of its own pieces is of the elements' form.
 use mathlib.Core.Bool.{true, false}
-use mathlib.Core.List.{List, [], _∷_, _++_, append-assoc}
+use mathlib.Core.List.{List, [], _∷_, _++_}
 use mathlib.Core.Option.{Option, none, some}
-use mathlib.Core.Path.{_≡_, refl, sym, ap, _∙_}
+use mathlib.Core.Path.{_≡_, refl, sym, ap, ap₂, _∙_}
 use Prim.Native.Nat.{ℕ, zero, suc, _+_, _-_, _<_, _≤_}
 use native.Mathlib.Omega.{arith}
 use borrow.Author.Tests.{eq-eqb}
@@ -10,10 +10,10 @@ use lib.Dec.{eqb}
 use lib.ListN.{length, getD, drop, length-append, length-drop, List·getD-append}
 use lib.Seq.{getD-drop, drop-drop}
 use Rattle.zone.proofs.Good.{by-order}
-use Rattle.sheet.specs.Words.{pieces, eachOf}
+use Rattle.sheet.specs.Words.{pieces, consOf, eachOf}
 use Rattle.words.specs.Answers.{madeRead}
 use Rattle.words.specs.Lists.{before, listAt}
-use Rattle.words.proofs.Pieces.{After, ended, more, Cut, cut-of}
+use Rattle.words.proofs.Pieces.{After, ended, more, cut-here, Whole, Cut, cut-of}
 use Rattle.words.proofs.Tied.{whole-none, whole-all, whole-part, made, Tied, tied-made, tied-by, tied-none}
 
 -- ---- a line that from a place on is a piece and more
@@ -55,27 +55,21 @@ module _ (s : List ℕ) (at : ℕ) (piece : List ℕ) where
         past (x ∷ p) = past p
 
 -- ---- the elements' form, one after the other
-abbrev pub onto : {A : Type 0} → Option A → Option (List A) → Option (List A)
-onto none xs = none
-onto (some x) none = none
-onto (some x) (some xs) = some (x ∷ xs)
-
 module _ {A : Type 0} (form : List ℕ → Option A) where
-  pub each-onto : (p : List ℕ) (ps : List (List ℕ)) (o : Option A) (r : Option (List A)) → form p ≡ o → eachOf form ps ≡ r → eachOf form (p ∷ ps) ≡ onto o r
+  pub each-cons : (p : List ℕ) (ps : List (List ℕ)) (o : Option A) (r : Option (List A)) → form p ≡ o → eachOf form ps ≡ r → eachOf form (p ∷ ps) ≡ consOf o r
   unfolding eachOf
-  each-onto p ps none r e f = rw (eachOf, e) refl
-  each-onto p ps (some x) none e f = rw (eachOf, e, f) refl
-  each-onto p ps (some x) (some xs) e f = rw (eachOf, e, f) refl
+  each-cons p ps o r e f = ap₂ consOf e f
 
   pub each-none : eachOf form [] ≡ some []
   unfolding eachOf
   each-none = refl
 
 -- an element before a list that is tied
-onto-tied : {A : Type 0} (x : A) (o : Option (List A)) (r : Option (List A × ℕ)) (at from end : ℕ) → at ≤ from → Tied o r from end → Tied (onto (some x) o) (before x r) at end
-onto-tied {A} x o r at from end h t = by-cases o r (tied-made (λ (xs : List A). x ∷ xs) o r at from end h t)
+cons-tied : {A : Type 0} (x : A) (o : Option (List A)) (r : Option (List A × ℕ)) (at from end : ℕ) → at ≤ from → Tied o r from end → Tied (consOf (some x) o) (before x r) at end
+unfolding consOf
+cons-tied {A} x o r at from end h t = by-cases o r (tied-made (λ (xs : List A). x ∷ xs) o r at from end h t)
   where
-    by-cases : (o : Option (List A)) (r : Option (List A × ℕ)) → Tied (made (λ (xs : List A). x ∷ xs) o) (madeRead (λ (xs : List A). x ∷ xs) r) at end → Tied (onto (some x) o) (before x r) at end
+    by-cases : (o : Option (List A)) (r : Option (List A × ℕ)) → Tied (made (λ (xs : List A). x ∷ xs) o) (madeRead (λ (xs : List A). x ∷ xs) r) at end → Tied (consOf (some x) o) (before x r) at end
     by-cases none none t = t
     by-cases none (some r) t = t
     by-cases (some xs) none t = t
@@ -106,10 +100,11 @@ module _ {A : Type 0} (read : ℕ → Option (A × ℕ)) (separator : ℕ) (s : 
       (other : eqb (getD tail 0 0) separator ≡ false) where
     -- the form of the whole list where its first element is not read whole
     not-whole : (at : ℕ) (q : List ℕ) (others : List (List ℕ)) (r : A × ℕ) → Tied (form q) (some r) at (at + length q) → (r .1 ≡ at + length q → ⊥) → eachOf form (q ∷ others) ≡ none
-    not-whole at q others r t n = each-onto form q others none _ (t .whole ∙ whole-part r _ n) refl
+    unfolding consOf
+    not-whole at q others r t n = each-cons form q others none _ (t .whole ∙ whole-part r _ n) refl
 
     -- an element that ends inside its piece: no separator stands there
-    inside : (left at : ℕ) (q rest : List ℕ) (others : List (List ℕ)) (end : ℕ) (r : A × ℕ) → drop at s ≡ q ++ rest → ((k : ℕ) → k < length q → eqb (getD q k 0) separator ≡ false)
+    inside : (left at : ℕ) (q rest : List ℕ) (others : List (List ℕ)) (end : ℕ) (r : A × ℕ) → drop at s ≡ q ++ rest → Whole separator q
         → read at ≡ some r → Tied (form q) (some r) at (at + length q) → r .1 < at + length q → at + length q ≤ end
         → Tied (eachOf form (q ∷ others)) (listAt read separator s (suc left) at) at end
     inside left at q rest others end r here whole e t l g =
@@ -119,11 +114,13 @@ module _ {A : Type 0} (read : ℕ → Option (A × ℕ)) (separator : ℕ) (s : 
 
     no-first : (left at : ℕ) (q : List ℕ) (others : List (List ℕ)) (end : ℕ) → read at ≡ none → Tied (form q) none at (at + length q)
         → Tied (eachOf form (q ∷ others)) (listAt read separator s (suc left) at) at end
-    no-first left at q others end e t = rw (list-none left at e, each-onto form q others none _ (t .whole ∙ whole-none _) refl) (tied-none _ _)
+    unfolding consOf
+    no-first left at q others end e t = rw (list-none left at e, each-cons form q others none _ (t .whole ∙ whole-none _) refl) (tied-none _ _)
 
     -- the last element
-    last-tied : (left at : ℕ) (q : List ℕ) → drop at s ≡ q ++ tail → ((k : ℕ) → k < length q → eqb (getD q k 0) separator ≡ false)
+    last-tied : (left at : ℕ) (q : List ℕ) → drop at s ≡ q ++ tail → Whole separator q
         → (o : Option (A × ℕ)) → read at ≡ o → Tied (form q) o at (at + length q) → Tied (eachOf form (q ∷ [])) (listAt read separator s (suc left) at) at (at + length q)
+    unfolding consOf
     last-tied left at q here whole none e t = no-first left at q [] _ e t
     last-tied left at q here whole (some r) e t =
         by-order (r .1) (at + length q) (λ l. inside left at q tail [] _ r here whole e t l (omega arith))
@@ -131,10 +128,10 @@ module _ {A : Type 0} (read : ℕ → Option (A × ℕ)) (separator : ℕ) (s : 
         let i = t .inside r refl in
         let m : r .1 ≡ at + length q = omega (arith, i) in
         rw (list-last left at r e (ap (λ (x : ℕ). eqb x separator) (after-byte s at q tail (r .1) here m) ∙ other))
-        (single _ r at _ (i .0) (i .1) (λ n. each-onto form q [] (some (r .0)) (some []) (t .whole ∙ whole-all r _ m) (each-none form)) (λ n. absurd (n m))))
+        (single _ r at _ (i .0) (i .1) (λ n. each-cons form q [] (some (r .0)) (some []) (t .whole ∙ whole-all r _ m) (each-none form)) (λ n. absurd (n m))))
 
     -- an element before a separator and a list that is tied
-    next-tied : (left at : ℕ) (q rest : List ℕ) → drop at s ≡ q ++ (separator ∷ (rest ++ tail)) → ((k : ℕ) → k < length q → eqb (getD q k 0) separator ≡ false)
+    next-tied : (left at : ℕ) (q rest : List ℕ) → drop at s ≡ q ++ (separator ∷ (rest ++ tail)) → Whole separator q
         → ((from : ℕ) → drop from s ≡ rest ++ tail → Tied (eachOf form (pieces separator rest)) (listAt read separator s left from) from (from + length rest))
         → (o : Option (A × ℕ)) → read at ≡ o → Tied (form q) o at (at + length q)
         → Tied (eachOf form (q ∷ pieces separator rest)) (listAt read separator s (suc left) at) at (at + length q + 1 + length rest)
@@ -146,10 +143,10 @@ module _ {A : Type 0} (read : ℕ → Option (A × ℕ)) (separator : ℕ) (s : 
         let m : r .1 ≡ at + length q = omega (arith, i) in
         let n : r .1 + 1 + length rest ≡ at + length q + 1 + length rest = omega arith in
         let a = again (r .1 + 1) (after-rest s at q (separator ∷ (rest ++ tail)) (r .1) here m) in
-        rw (list-more left at r e (after-byte s at q (separator ∷ (rest ++ tail)) (r .1) here m), each-onto form q (pieces separator rest) (some (r .0)) _ (t .whole ∙ whole-all r _ m) refl)
-        (onto-tied (r .0) _ _ at (r .1 + 1) _ (omega (arith, i)) (rw n at a)))
+        rw (list-more left at r e (after-byte s at q (separator ∷ (rest ++ tail)) (r .1) here m), each-cons form q (pieces separator rest) (some (r .0)) _ (t .whole ∙ whole-all r _ m) refl)
+        (cons-tied (r .0) _ _ at (r .1 + 1) _ (omega (arith, i)) (rw n at a)))
 
-    pub list-tied : (left at : ℕ) (p : List ℕ) → drop at s ≡ p ++ tail → length p < left
+    list-tied : (left at : ℕ) (p : List ℕ) → drop at s ≡ p ++ tail → length p < left
         → Tied (eachOf form (pieces separator p)) (listAt read separator s left at) at (at + length p)
     list-tied zero at p here h = absurd (omega arith)
     list-tied (suc left) at p here h = by-cut (cut-of separator p) (list-tied left)
@@ -158,15 +155,15 @@ module _ {A : Type 0} (read : ℕ → Option (A × ℕ)) (separator : ℕ) (s : 
             → Tied (eachOf form (pieces separator p)) (listAt read separator s (suc left) at) at (at + length p)
         by-cut c again = rw (c .cut) (by-after (c .piece) (c .tail) (c .others) (c .text) (c .whole) (c .after))
           where
-            by-after : (q t : List ℕ) (others : List (List ℕ)) → p ≡ q ++ t → ((k : ℕ) → k < length q → eqb (getD q k 0) separator ≡ false) → After separator t others
+            by-after : (q t : List ℕ) (others : List (List ℕ)) → p ≡ q ++ t → Whole separator q → After separator t others
                 → Tied (eachOf form (q ∷ others)) (listAt read separator s (suc left) at) at (at + length p)
             by-after q t others e whole ended =
                 let n : length p ≡ length q = omega (arith, ap length e, length-append q []) in
-                let f : drop at s ≡ q ++ tail = here ∙ ap (λ (l : List ℕ). l ++ tail) e ∙ append-assoc q [] tail in
+                let f : drop at s ≡ q ++ tail = cut-here q [] tail here e in
                 rw n (last-tied left at q f whole (read at) refl (tie at q tail f stops))
             by-after q t others e whole (more rest) =
                 let n : at + length p ≡ at + length q + 1 + length rest = omega (arith, ap length e, length-append q (separator ∷ rest)) in
-                let f : drop at s ≡ q ++ (separator ∷ (rest ++ tail)) = here ∙ ap (λ (l : List ℕ). l ++ tail) e ∙ append-assoc q (separator ∷ rest) tail in
+                let f : drop at s ≡ q ++ (separator ∷ (rest ++ tail)) = cut-here q (separator ∷ rest) tail here e in
                 rw n
                 (next-tied left at q rest f whole (λ from g. again from rest g (omega (arith, ap length e, length-append q (separator ∷ rest)))) (read at) refl
                 (tie at q (separator ∷ (rest ++ tail)) f (stop (rest ++ tail))))

@@ -1,7 +1,7 @@
 -- The first piece of a text ends at the first separator or at the end; the others are the pieces of what follows it.
 use mathlib.Core.Bool.{Bool, true, false}
-use mathlib.Core.List.{List, [], _∷_, _++_}
-use mathlib.Core.Path.{_≡_, refl, ap}
+use mathlib.Core.List.{List, [], _∷_, _++_, append-assoc}
+use mathlib.Core.Path.{_≡_, refl, ap, _∙_}
 use Prim.Native.Nat.{ℕ, zero, suc, _<_}
 use native.Mathlib.Omega.{arith}
 use lib.Dec.{eqb}
@@ -14,6 +14,14 @@ pub data After (separator : ℕ) : List ℕ → List (List ℕ) → Type 0 where
   ended : After separator [] []
   more : (rest : List ℕ) → After separator (separator ∷ rest) (pieces separator rest)
 
+-- what is a text and more, where the text is cut in two
+pub cut-here : {x p : List ℕ} (q t tail : List ℕ) → x ≡ p ++ tail → p ≡ q ++ t → x ≡ q ++ (t ++ tail)
+cut-here q t tail here e = here ∙ ap (λ (l : List ℕ). l ++ tail) e ∙ append-assoc q t tail
+
+-- no separator stands in a piece
+abbrev pub Whole : ℕ → List ℕ → Type 0
+Whole separator q = (k : ℕ) → k < length q → eqb (getD q k 0) separator ≡ false
+
 pub record Cut (separator : ℕ) (t : List ℕ) : Type 0 where
   pub piece : List ℕ
   pub tail : List ℕ
@@ -21,8 +29,7 @@ pub record Cut (separator : ℕ) (t : List ℕ) : Type 0 where
   pub text : t ≡ piece ++ tail
   pub cut : pieces separator t ≡ piece ∷ others
   pub after : After separator tail others
-  -- no separator stands in the piece
-  pub whole : (k : ℕ) → k < length piece → eqb (getD piece k 0) separator ≡ false
+  pub whole : Whole separator piece
 
 pub cut-of : (separator : ℕ) (t : List ℕ) → Cut separator t
 unfolding pieces
@@ -51,6 +58,6 @@ cut-of separator (c ∷ cs) = by-byte (eqb c separator) refl (cut-of separator c
           whole = bytes;
         }
       where
-        bytes : (k : ℕ) → k < length (c ∷ w .piece) → eqb (getD (c ∷ w .piece) k 0) separator ≡ false
+        bytes : Whole separator (c ∷ w .piece)
         bytes zero l = e
         bytes (suc k) l = w .whole k (omega arith)

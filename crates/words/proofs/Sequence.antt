@@ -1,6 +1,6 @@
 -- Values one after the other between separators, against the form of a whole text that is cut at them.
 use mathlib.Core.Bool.{false}
-use mathlib.Core.List.{List, [], _∷_, _++_, append-assoc}
+use mathlib.Core.List.{List, [], _∷_, _++_}
 use mathlib.Core.Option.{Option, none, some}
 use mathlib.Core.Path.{_≡_, refl, ap, _∙_}
 use Prim.Native.Nat.{ℕ, _+_, _<_}
@@ -12,7 +12,7 @@ use Rattle.zone.proofs.Good.{by-order}
 use Rattle.sheet.specs.Words.{pieces}
 use Rattle.words.specs.Answers.{thenAt}
 use Rattle.words.proofs.Listing.{piece-byte, after-byte, after-rest}
-use Rattle.words.proofs.Pieces.{After, ended, more, Cut, cut-of}
+use Rattle.words.proofs.Pieces.{After, ended, more, cut-here, Whole, Cut, cut-of}
 use Rattle.words.proofs.Tied.{whole-none, whole-all, whole-part, Tied, tied-none, tied-short, tied-from}
 
 -- one piece, of the form
@@ -24,13 +24,6 @@ only form (p ∷ q ∷ others) = none
 -- `Stop`: what may stand after a value; its separator may
 module _ {A : Type 0} (separator : ℕ) (s : List ℕ) (form : List ℕ → Option A) (read : ℕ → Option (A × ℕ)) (Stop : List ℕ → Type 0) (stop : (rest : List ℕ) → Stop (separator ∷ rest))
     (tie : (at : ℕ) (p tail : List ℕ) → drop at s ≡ p ++ tail → Stop tail → Tied (form p) (read at) at (at + length p)) (tail : List ℕ) (stops : Stop tail) where
-  -- what stands from a place on, by its first piece
-  ended-here : (at : ℕ) (p q : List ℕ) → drop at s ≡ p ++ tail → p ≡ q ++ [] → drop at s ≡ q ++ tail
-  ended-here at p q here e = here ∙ ap (λ (l : List ℕ). l ++ tail) e ∙ append-assoc q [] tail
-
-  more-here : (at : ℕ) (p q rest : List ℕ) → drop at s ≡ p ++ tail → p ≡ q ++ (separator ∷ rest) → drop at s ≡ q ++ (separator ∷ (rest ++ tail))
-  more-here at p q rest here e = here ∙ ap (λ (l : List ℕ). l ++ tail) e ∙ append-assoc q (separator ∷ rest) tail
-
   pub only-tied : (at : ℕ) (p : List ℕ) → drop at s ≡ p ++ tail → Tied (only form (pieces separator p)) (read at) at (at + length p)
   only-tied at p here = by-cut (cut-of separator p)
     where
@@ -40,11 +33,11 @@ module _ {A : Type 0} (separator : ℕ) (s : List ℕ) (form : List ℕ → Opti
           by-after : (q t : List ℕ) (others : List (List ℕ)) → p ≡ q ++ t → After separator t others → Tied (only form (q ∷ others)) (read at) at (at + length p)
           by-after q t others e ended =
               let n : length p ≡ length q = omega (arith, ap length e, length-append q []) in
-              rw n (tie at q tail (ended-here at p q here e) stops)
+              rw n (tie at q tail (cut-here q [] tail here e) stops)
           by-after q t others e (more rest) =
               let k = cut-of separator rest in
               rw (k .cut)
-              (tied-short _ _ at (at + length q) (at + length p) (tie at q (separator ∷ (rest ++ tail)) (more-here at p q rest here e) (stop (rest ++ tail)))
+              (tied-short _ _ at (at + length q) (at + length p) (tie at q (separator ∷ (rest ++ tail)) (cut-here q (separator ∷ rest) tail here e) (stop (rest ++ tail)))
               (omega (arith, ap length e, length-append q (separator ∷ rest))))
 
   -- a value, its separator, and what follows: `next` is the form of the pieces after it
@@ -55,25 +48,25 @@ module _ {A : Type 0} (separator : ℕ) (s : List ℕ) (form : List ℕ → Opti
       (again : (a : A) (from : ℕ) (rest : List ℕ) → drop from s ≡ rest ++ tail → Tied (next a (pieces separator rest)) (then a from) from (from + length rest))
       (other : eqb (getD tail 0 0) separator ≡ false) where
     -- the value ends inside its piece, where no separator stands
-    inside : (at : ℕ) (q rest : List ℕ) (others : List (List ℕ)) (end : ℕ) (r : A × ℕ) → drop at s ≡ q ++ rest → ((k : ℕ) → k < length q → eqb (getD q k 0) separator ≡ false)
+    inside : (at : ℕ) (q rest : List ℕ) (others : List (List ℕ)) (end : ℕ) (r : A × ℕ) → drop at s ≡ q ++ rest → Whole separator q
         → Tied (form q) (some r) at (at + length q) → r .1 < at + length q → Tied (whole (q ∷ others)) (thenAt separator s then (some r)) at end
     inside at q rest others end r here whole-piece t l =
         let i = t .inside r refl in
         rw (piece-byte s at q rest (r .1) here (i .0) l (λ (x : ℕ). eqb x separator ≡ false) whole-piece, no-first q others (t .whole ∙ whole-part r _ (λ (m : r .1 ≡ at + length q). omega arith)))
         (tied-none at end)
 
-    by-read : (at : ℕ) (q t : List ℕ) (others : List (List ℕ)) (p : List ℕ) → drop at s ≡ p ++ tail → p ≡ q ++ t → After separator t others → ((k : ℕ) → k < length q → eqb (getD q k 0) separator ≡ false)
+    by-read : (at : ℕ) (q t : List ℕ) (others : List (List ℕ)) (p : List ℕ) → drop at s ≡ p ++ tail → p ≡ q ++ t → After separator t others → Whole separator q
         → (o : Option (A × ℕ)) → Tied (form q) o at (at + length q) → Tied (whole (q ∷ others)) (thenAt separator s then o) at (at + length p)
     by-read at q t others p here e a whole-piece none k = rw (no-first q others (k .whole ∙ whole-none _)) (tied-none at _)
     by-read at q t others p here e ended whole-piece (some r) k =
-        let f = ended-here at p q here e in
+        let f = cut-here q [] tail here e in
         let i = k .inside r refl in
         by-order (r .1) (at + length q) (λ l. inside at q tail [] _ r f whole-piece k l)
         (λ l.
         let m : r .1 ≡ at + length q = omega (arith, i) in
         rw (ap (λ (x : ℕ). eqb x separator) (after-byte s at q tail (r .1) f m) ∙ other, first q [] (r .0) (k .whole ∙ whole-all r _ m), alone (r .0)) (tied-none at _))
     by-read at q t others p here e (more rest) whole-piece (some r) k =
-        let f = more-here at p q rest here e in
+        let f = cut-here q (separator ∷ rest) tail here e in
         let i = k .inside r refl in
         by-order (r .1) (at + length q) (λ l. inside at q _ (pieces separator rest) _ r f whole-piece k l)
         (λ l.
@@ -89,8 +82,8 @@ module _ {A : Type 0} (separator : ℕ) (s : List ℕ) (form : List ℕ → Opti
         by-cut : Cut separator p → Tied (whole (pieces separator p)) (thenAt separator s then (read at)) at (at + length p)
         by-cut c = rw (c .cut) (by-piece (c .piece) (c .tail) (c .others) (c .text) (c .after) (c .whole))
           where
-            by-piece : (q t : List ℕ) (others : List (List ℕ)) → p ≡ q ++ t → After separator t others → ((k : ℕ) → k < length q → eqb (getD q k 0) separator ≡ false)
+            by-piece : (q t : List ℕ) (others : List (List ℕ)) → p ≡ q ++ t → After separator t others → Whole separator q
                 → Tied (whole (q ∷ others)) (thenAt separator s then (read at)) at (at + length p)
-            by-piece q t others e ended w = by-read at q t others p here e ended w (read at) (tie at q tail (ended-here at p q here e) stops)
+            by-piece q t others e ended w = by-read at q t others p here e ended w (read at) (tie at q tail (cut-here q [] tail here e) stops)
             by-piece q t others e (more rest) w =
-                by-read at q t others p here e (more rest) w (read at) (tie at q (separator ∷ (rest ++ tail)) (more-here at p q rest here e) (stop (rest ++ tail)))
+                by-read at q t others p here e (more rest) w (read at) (tie at q (separator ∷ (rest ++ tail)) (cut-here q (separator ∷ rest) tail here e) (stop (rest ++ tail)))

@@ -3,9 +3,9 @@ use mathlib.Core.Bool.{Bool, true, false, cond, _&&_, and-false}
 use mathlib.Core.Path.{_≡_, refl, ap, _∙_}
 use Prim.Native.Nat.{ℕ, _+_, _-_, _*_, _<_, _≤_}
 use native.Mathlib.Omega.{arith}
-use borrow.Author.Tests.{le-leb, lt-leb, leb-true}
+use borrow.Author.Tests.{le-leb, lt-leb}
 use lib.Dec.{leb}
-use Rattle.calendar.proofs.Every.{both-true}
+use Rattle.calendar.proofs.Every.{within-range}
 use Rattle.calendar.specs.Below.{within}
 use Rattle.calendar.specs.Calendar.{leapYear, monthLength, dayOf, validDate, dayOfDate}
 use Rattle.calendar.specs.Window.{windowFirst, windowDays, dayMinutes}
@@ -37,7 +37,7 @@ module _ (t : Time) where
     date = within 1 (monthLength (leapYear (t .year)) (t .month)) (t .day)
 
     years : (2000 ≤ t .year) × (t .year ≤ 2099)
-    years = let b = both-true (leb 2000 (t .year)) _ y in (leb-true _ _ (b .0), leb-true _ _ (b .1))
+    years = within-range 2000 2099 (t .year) y
 
     by-date : (b : Bool) → date ≡ b → (minuteAs t ≡ cond b (Minute.Is (minuteOf t)) Minute.Outside) × (dayOfDate (t .year) (t .month) (t .day) ≡ cond b (Day.Is (dayOf (t .year) (t .month) (t .day))) Day.Outside)
     unfolding timeInRange date dayOfDate validDate
@@ -66,8 +66,8 @@ module _ (t : Time) where
         by-cases : (b : Bool) → date ≡ b → (minuteAs t ≡ Minute.Is (dayMinutes * (day - windowFirst) + (60 * t .hour + t .minute))) × ((windowFirst ≤ day) × (day < windowFirst + windowDays))
         by-cases true e =
             let d : day ≡ dayOf (t .year) (t .month) (t .day) = ap dayIn (g ∙ by-date true e .1) in
-            let b = both-true (leb 1 (t .day)) _ e in
-            let w = day-in-window (t .year) (t .month) (t .day) (years .0) (years .1) (leb-true _ _ (b .0)) (leb-true _ _ (b .1)) in
+            let b = within-range 1 (monthLength (leapYear (t .year)) (t .month)) (t .day) e in
+            let w = day-in-window (t .year) (t .month) (t .day) (years .0) (years .1) (b .0) (b .1) in
             rw d (by-date true e .0, w)
         by-cases false e = let f = g ∙ by-date false e .1 in let z : _≡_ {A = ℕ} 0 1 = cc in absurd (omega arith)
 

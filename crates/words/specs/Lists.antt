@@ -11,6 +11,11 @@ abbrev pub before : {A : Type 0} → A → Option (List A × ℕ) → Option (Li
 before x none = none
 before x (some r) = some (x ∷ r .0, r .1)
 
+-- what comes of a list, each element taken up in what came of those before it
+unfoldable pub overAll : {A M : Type 0} → (M → A → M) → M → List A → M
+overAll take m [] = m
+overAll take m (x ∷ xs) = overAll take (take m x) xs
+
 -- the elements from a place on, each with the place after it by `read`, as long as a separator follows; `left` is above the bytes left
 unfoldable pub listAt : {A : Type 0} → (ℕ → Option (A × ℕ)) → ℕ → List ℕ → ℕ → ℕ → Option (List A × ℕ)
 listAt read separator s zero at = none

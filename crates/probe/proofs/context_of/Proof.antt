@@ -1,7 +1,6 @@
 -- By the first number.
 use mathlib.Core.Path.{refl}
 use borrow.Author.Tests.{eq-eqb, ne-eqb}
-use borrow.Author.Needs.{needs}
 use Rattle.probe.proofs.context_of.Statement.{statement}
 use Rattle.probe.proofs.context_of.Tie as tie
 

@@ -1,5 +1,5 @@
 -- By what the line is read as.
-use mathlib.Core.Path.{_≡_, refl, sym, ap, _∙_}
+use mathlib.Core.Path.{refl, sym, ap, _∙_}
 use denote.Ref.{now}
 use Rattle.line.specs.Lined.{contextAs, lined}
 use Rattle.line.specs.declared.Context.{Context}

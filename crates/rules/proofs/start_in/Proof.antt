@@ -1,6 +1,6 @@
 -- The tests of the definition, one after the other.
 use Rattle.good.proofs.Goods.{stopped, passed}
-use Rattle.rules.specs.Ruled.{startIn}
+use Rattle.rules.specs.Ruled.{startHeldIn}
 use borrow.Author.Needs.{needs}
 use Rattle.rules.proofs.start_in.Statement.{statement}
 use Rattle.rules.proofs.start_in.Tie as tie
@@ -9,15 +9,15 @@ start-held-requires : tie.Need-start-held-requires
 start-held-requires c κs = search needs
 
 returns : tie.Need-returns
-unfolding startIn
+unfolding startHeldIn
 returns c = rw (stopped (c .before .start-held .ensures) (c .if1 .taken))
 
 returns-2 : tie.Need-returns-2
-unfolding startIn
+unfolding startHeldIn
 returns-2 c = rw (passed (c .before .before .before .before .start-held .ensures) (c .before .before .before .if1 .left), c .before .before .if2 .taken)
 
 returns-3 : tie.Need-returns-3
-unfolding startIn
+unfolding startHeldIn
 returns-3 c = rw (passed (c .before .before .start-held .ensures) (c .before .if1 .left), c .if2 .left)
 
 pub start-in-spec : {M : Type 1} → statement M

@@ -7,7 +7,7 @@ use denote.Ref.{now}
 use Rattle.calendar.proofs.Windows.{month-days-range}
 use Rattle.frames.proofs.MonthDays.{days-at-most, first-at-most}
 use Rattle.count.proofs.HeldSets.{none-past, none-held, counted-held}
-use Rattle.count.proofs.NthDays.{month-ends}
+use Rattle.days.proofs.Walks.{month-end-top}
 use Rattle.count.proofs.Turning.{width-range}
 use Rattle.count.proofs.sets.counted_set.Statement.{statement}
 use Rattle.count.proofs.sets.counted_set.Tie as tie
@@ -46,7 +46,7 @@ place-requires c κs = let s = c .before .before .before .before .before .before
     let k = s .args .k in (
       omega (arith, c .before .width .ensures, width-range (now (s .args .f)) .0),
       omega (arith, c .before .before .before .larger .ensures),
-      omega (arith, c .before .before .before .before .before .month-days .ensures, c .before .before .before .before .before .before .month-first .ensures, month-ends k (s .pre .0)),
+      omega (arith, c .before .before .before .before .before .month-days .ensures, c .before .before .before .before .before .before .month-first .ensures, month-end-top k (s .pre .0)),
     )
 
 sub-runs : tie.Need-sub-runs

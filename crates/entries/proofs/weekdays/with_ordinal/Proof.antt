@@ -1,9 +1,8 @@
 -- Out of range, from the end, or from the front.
 use mathlib.Core.Path.{refl, sym, _∙_}
 use native.Mathlib.Omega.{arith}
-use borrow.Author.Tests.{not-true, not-false, leb-true}
-use lib.Dec.{leb}
-use Rattle.calendar.proofs.Every.{both-true}
+use borrow.Author.Tests.{not-true, not-false}
+use Rattle.calendar.proofs.Every.{within-range}
 use Rattle.entries.specs.Marks.{withOrdinal}
 use borrow.Author.Needs.{needs}
 use Rattle.entries.proofs.weekdays.with_ordinal.Statement.{statement}
@@ -17,7 +16,7 @@ unfolding withOrdinal
 returns c = rw (sym (c .before .lies-within .ensures) ∙ not-true _ (c .if1 .taken)) refl
 
 sub-place : tie.Need-sub-place
-sub-place c = omega (arith, leb-true (c .before .before .args .number) 5 (both-true (leb 1 (c .before .before .args .number)) _ (sym (c .before .lies-within .ensures) ∙ not-false _ (c .if1 .left)) .1))
+sub-place c = omega (arith, within-range 1 5 (c .before .before .args .number) (sym (c .before .lies-within .ensures) ∙ not-false _ (c .if1 .left)))
 
 mul-place : tie.Need-mul-place
 mul-place c = search needs
