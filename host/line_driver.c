@@ -42,6 +42,11 @@ static void make_places(void) {
     }
 }
 
+/* Whether a byte stands for itself in a text. */
+static int plain(uint8_t byte) {
+    return 0x20 <= byte && byte <= 0x7E && byte != '\\';
+}
+
 static int digit(char c) {
     return '0' <= c && c <= '9' ? c - '0' : 'A' <= c && c <= 'F' ? c - 'A' + 10 : -1;
 }
@@ -50,12 +55,15 @@ static int digit(char c) {
 static ptrdiff_t read_text(char *text, size_t length) {
     size_t made = 0;
     for (size_t i = 0; i < length; made++) {
-        if (text[i] != '\\') {
+        if (plain((uint8_t)text[i])) {
             text[made] = text[i++];
             continue;
         }
+        if (text[i] != '\\') {
+            return -1;
+        }
         int high = i + 2 < length ? digit(text[i + 1]) : -1, low = i + 2 < length ? digit(text[i + 2]) : -1;
-        if (high < 0 || low < 0) {
+        if (high < 0 || low < 0 || plain((uint8_t)(16 * high + low))) {
             return -1;
         }
         text[made] = (char)(16 * high + low);
@@ -87,7 +95,7 @@ static void show(found f) {
     }
     for (size_t i = 0; i < (size_t)f.answer.length; i++) {
         uint8_t byte = f.frame[i];
-        if (0x20 <= byte && byte <= 0x7E && byte != '\\') {
+        if (plain(byte)) {
             putchar(byte);
         } else {
             printf("\\%02X", byte);

@@ -99,7 +99,8 @@ fn context_of(before: u64, changes: u64, low: u64, offset: u64) -> Context
     }
 }
 
-// A sheet line without its LF: 0 and the frame's line at the buffer's front, or its refusal and the buffer as it was.
+// A sheet line without its LF: 0 and the frame's line at the buffer's front, or its refusal and the buffer as it was. A frame for which there is no
+// room is 0 and length 0, and the buffer is as it was.
 #[no_mangle]
 pub extern "C" fn probe_line(
     s: &[u8],

@@ -199,7 +199,7 @@ fn with_field(place: usize, field: &str) -> [Case; 2] {
     })
 }
 
-/// Every number of each field and those beside them, with up to six digits, alone and in lists.
+/// Every number of each field and those beside them, alone, with zeros before it and in lists; and `DIGITS`.
 fn cron_numbers() -> Vec<Case> {
     let mut all = Vec::new();
     for (place, range) in CRON_FIELDS.iter().enumerate() {
@@ -274,7 +274,7 @@ fn intervals() -> Vec<Case> {
     all
 }
 
-/// Numbers of one digit to six.
+/// `DIGITS` in every part that takes a number.
 fn digits() -> Vec<Case> {
     let names = [
         "INTERVAL=",
