@@ -4,8 +4,8 @@
 
    BEFORE says what stands before the line: 0 nothing, 1 a Z and CHANGES of T, 2 other lines. LOW is the least instant of a next transition
    and OFFSET the offset before it, both moved up by 1,440. ROOM is the length of the buffer, at most 4,096. TEXT is the line without LF, all
-   that is left of the request: bytes 20 to 7E but for `\`, any other as `\` and two hex digits. FRAME is the buffer's front, so many bytes as
-   the answer says, written likewise; `-` for none. A frame for which the buffer has no room is not written: `0 0 -`.
+   that is left of the request, written as shown.h says. FRAME is the buffer's front, so many bytes as the answer says, written likewise; `-`
+   for none. A frame for which the buffer has no room is not written: `0 0 -`.
 
    Each call is made twice, with line and buffer at either side of a page that may not be touched (lent.h); a call that goes astray, or
    writes the line, ends the driver with status 3. A word more is said in the answer where the two calls differ, or a byte of a buffer
@@ -16,6 +16,8 @@
 
 #include <errno.h>
 #include <inttypes.h>
+
+#include "shown.h"
 
 enum { CALLS = 2, NUMBERS = 5, MOST_ROOM = 4096 };
 
@@ -42,36 +44,6 @@ static void make_places(void) {
     }
 }
 
-/* Whether a byte stands for itself in a text. */
-static int plain(uint8_t byte) {
-    return 0x20 <= byte && byte <= 0x7E && byte != '\\';
-}
-
-static int digit(char c) {
-    return '0' <= c && c <= '9' ? c - '0' : 'A' <= c && c <= 'F' ? c - 'A' + 10 : -1;
-}
-
-/* Turns the text into the line's bytes, in its own memory: their number, or -1 where it is no such text. */
-static ptrdiff_t read_text(char *text, size_t length) {
-    size_t made = 0;
-    for (size_t i = 0; i < length; made++) {
-        if (plain((uint8_t)text[i])) {
-            text[made] = text[i++];
-            continue;
-        }
-        if (text[i] != '\\') {
-            return -1;
-        }
-        int high = i + 2 < length ? digit(text[i + 1]) : -1, low = i + 2 < length ? digit(text[i + 2]) : -1;
-        if (high < 0 || low < 0 || plain((uint8_t)(16 * high + low))) {
-            return -1;
-        }
-        text[made] = (char)(16 * high + low);
-        i += 3;
-    }
-    return (ptrdiff_t)made;
-}
-
 /* The buffer lies at the front of its place for one call and at its end for the other. */
 static found ask(int call, const void *line, size_t length, const uint64_t *numbers) {
     size_t room = (size_t)numbers[4];
@@ -89,17 +61,10 @@ static int same(found f, found g) {
 
 static void show(found f) {
     printf("%" PRIu64 " %" PRIu64 " ", f.answer.number, f.answer.length);
-    if (!f.fits || f.answer.length == 0) {
-        fputs(f.fits ? "-" : "longer than the buffer", stdout);
-        return;
-    }
-    for (size_t i = 0; i < (size_t)f.answer.length; i++) {
-        uint8_t byte = f.frame[i];
-        if (plain(byte)) {
-            putchar(byte);
-        } else {
-            printf("\\%02X", byte);
-        }
+    if (f.fits) {
+        show_bytes(f.frame, (size_t)f.answer.length);
+    } else {
+        fputs("longer than the buffer", stdout);
     }
 }
 
@@ -155,7 +120,7 @@ static int answer(char *request, size_t length) {
         }
         at = end + 1;
     }
-    ptrdiff_t bytes = read_text(at, length - (size_t)(at - request));
+    ptrdiff_t bytes = shown_bytes(at, length - (size_t)(at - request));
     if (bytes < 0 || MOST_ROOM < numbers[4]) {
         return 0;
     }
