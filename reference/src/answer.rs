@@ -4,6 +4,7 @@
 use crate::answer_frames;
 use crate::answer_lines;
 use crate::answer_plans;
+use crate::answer_sheets;
 use crate::dates;
 use crate::local::is_local_minute;
 use crate::zone::{Transition, Zone};
@@ -19,6 +20,9 @@ pub fn answer(request: &str) -> Option<String> {
         "check" | "next" | "previous" | "local" => return answer_plans::answer(request),
         "rising" | "falling" | "nth" => return answer_frames::answer(request),
         "line" => return answer_lines::answer(request),
+        "sheet" | "sheet_check" | "sheet_next" | "sheet_previous" => {
+            return answer_sheets::answer(request)
+        }
         _ => {}
     }
     let numbers: Option<Vec<i64>> = words.map(|word| word.parse().ok()).collect();

@@ -23,8 +23,8 @@ pub fn answer(request: &str) -> Option<String> {
             let found = plan.check();
             Some(format!("{} {}", found.number, found.line))
         }
-        ("next", &[asked, count]) => Some(in_turn(asked, count, |at| plan.next(at))),
-        ("previous", &[asked, count]) => Some(in_turn(asked, count, |at| plan.previous(at))),
+        ("next", &[asked, count]) => Some(texts(in_turn(asked, count, |at| plan.next(at)))),
+        ("previous", &[asked, count]) => Some(texts(in_turn(asked, count, |at| plan.previous(at)))),
         ("local", minutes @ [_, ..]) => {
             let found = minutes.iter().map(|&minute| plan.instant_of_local(minute));
             Some(texts(found))
@@ -48,16 +48,20 @@ fn loaded(word: &str) -> Rc<Loaded> {
 }
 
 /// Answers that are each asked from the one before, so many or up to a refusal.
-fn in_turn(asked: i64, count: i64, search: impl Fn(i64) -> Found) -> String {
-    let taken = |found: &Found| found.number == 0;
-    let all = std::iter::successors(Some(search(asked)), |found| {
-        taken(found).then(|| search(found.instant))
-    });
-    texts(all.take(count as usize))
+pub fn in_turn(asked: i64, count: i64, search: impl Fn(i64) -> Found) -> Vec<Found> {
+    let mut all = vec![search(asked)];
+    while let Some(found) = all.last().filter(|found| found.number == 0) {
+        if all.len() as i64 >= count {
+            break;
+        }
+        all.push(search(found.instant));
+    }
+    all
 }
 
-fn texts(all: impl Iterator<Item = Found>) -> String {
+pub fn texts(all: impl IntoIterator<Item = Found>) -> String {
     let all: Vec<String> = all
+        .into_iter()
         .map(|found| format!("{} {} {}", found.number, found.line, found.instant))
         .collect();
     all.join(",")

@@ -11,19 +11,16 @@ use crate::hex::word_of;
 use crate::local::{FIRST_MINUTE, LAST_MINUTE};
 use crate::plan::{self, frame::Frame, Plan};
 use crate::random::Random;
+use crate::searches::{any_instant, Search, Searches};
 use crate::zone::{Zone, OFFSETS};
 
 type Requests = Box<dyn Iterator<Item = String>>;
 
 /// Rounds for `--times 1`: a plan of a sort, damaged copies of it, and another plan that is mostly refused.
 const ROUNDS: u64 = 300;
-const SORTS: u64 = 10;
+pub const SORTS: u64 = 10;
 const DAMAGES: u64 = 4;
 const BAD_SORTS: u64 = 8;
-
-/// No instant lies before the first or after the last of these.
-const FIRST_INSTANT: i64 = FIRST_MINUTE - 840;
-const LAST_INSTANT: i64 = LAST_MINUTE + 720;
 
 /// Document 01's whole example.
 const EXAMPLE: &str = "\
@@ -36,7 +33,7 @@ FF04
 
 /// A frame of every kind, rules of every frequency and with every group of fields. The starts are the 31st, a
 /// Saturday and the fifth one, so that a wrong field leaves the start an occurrence as often as can be.
-const EVERY_KIND: &str = "\
+pub const EVERY_KIND: &str = "\
 Z +0100
 T 20260329T0100 +0200
 T 20261025T0100 +0100
@@ -153,7 +150,7 @@ fn plans_past_16_bits() -> Vec<Vec<u8>> {
 }
 
 /// Doses at both ends of the window, and every minute of the days there, by the zones at the ends.
-fn sheets_at_the_ends() -> Vec<String> {
+pub fn sheets_at_the_ends() -> Vec<String> {
     let doses = ["D 20000101T0000\nD 20991231T2359", "C * * 1,31 1,12 *"];
     let zones = zones_at_the_ends().into_iter();
     zones
@@ -180,7 +177,7 @@ fn zones_at_the_ends() -> Vec<String> {
     zones
 }
 
-fn sheets_of_positions() -> Vec<String> {
+pub fn sheets_of_positions() -> Vec<String> {
     let lines = all_positions().into_iter();
     lines.map(|line| format!("Z +0000\n{line}\n")).collect()
 }
@@ -208,7 +205,7 @@ fn plan_of(sheet: &str) -> String {
     text
 }
 
-fn some_sheet(sort: u64, random: &mut Random) -> String {
+pub fn some_sheet(sort: u64, random: &mut Random) -> String {
     match sort {
         0 => full_sheet(random),
         1 => empty_sheet(random),
@@ -223,7 +220,7 @@ fn some_sheet(sort: u64, random: &mut Random) -> String {
 /// Everything that is asked of a plan.
 fn about(text: &[u8], random: &mut Random) -> Vec<String> {
     match plan::read(text) {
-        Ok(taken) => Asker::new(text, &taken, random).all(),
+        Ok(taken) => about_taken(text, &taken, random),
         Err(_) => about_few(text, random),
     }
 }
@@ -240,126 +237,50 @@ fn about_few(text: &[u8], random: &mut Random) -> Vec<String> {
     ]
 }
 
-fn any_instant(random: &mut Random) -> i64 {
-    random.between(FIRST_INSTANT - 1, LAST_INSTANT + 1)
+/// Everything that is asked of a taken plan.
+fn about_taken(text: &[u8], plan: &Plan, random: &mut Random) -> Vec<String> {
+    let mut asked = Searches {
+        zone: &plan.zone,
+        named: plan.frames.iter().flat_map(named_by).collect(),
+        in_turn: if plan.frames.len() > 40 { 12 } else { 40 },
+        random,
+        all: Vec::new(),
+    };
+    asked.at_the_extremes();
+    asked.anywhere(2);
+    asked.around_some_transitions(3);
+    asked.around_named_minutes(3);
+    let word = word_of(text);
+    let request = |search: &Search| {
+        let Search { name, from, count } = search;
+        format!("{name} {word} {from} {count}")
+    };
+    let mut all = vec![check(text)];
+    all.extend(asked.all.iter().map(request));
+    let minutes = local_minutes(&plan.zone, random);
+    all.push(format!("local {word} {}", minutes.join(" ")));
+    all
 }
 
-/// The requests about a taken plan.
-struct Asker<'a> {
-    word: String,
-    plan: &'a Plan,
-    /// Answers in a row; of a long plan fewer, since each of them loads it again.
-    in_turn: i64,
-    random: &'a mut Random,
-    requests: Vec<String>,
-}
-
-impl Asker<'_> {
-    fn new<'a>(text: &[u8], plan: &'a Plan, random: &'a mut Random) -> Asker<'a> {
-        Asker {
-            word: word_of(text),
-            plan,
-            in_turn: if plan.frames.len() > 40 { 12 } else { 40 },
-            random,
-            requests: vec![check(text)],
-        }
+/// Minutes in and around gaps and doubled hours, at both ends of the window and outside it.
+fn local_minutes(zone: &Zone, random: &mut Random) -> Vec<String> {
+    let mut minutes = vec![
+        i64::MIN,
+        FIRST_MINUTE - 1,
+        FIRST_MINUTE,
+        LAST_MINUTE,
+        LAST_MINUTE + 1,
+        i64::MAX,
+        random.any(),
+    ];
+    for _ in 0..20 {
+        minutes.push(near_a_transition(zone, random));
+        minutes.push(any_instant(random));
     }
-
-    fn all(mut self) -> Vec<String> {
-        self.at_the_extremes();
-        for _ in 0..2 {
-            let from = any_instant(self.random);
-            self.both_ways(from, from);
-        }
-        for _ in 0..self.plan.zone.transitions.len().min(3) {
-            self.around_a_transition();
-        }
-        for _ in 0..3 {
-            self.around_a_named_minute();
-        }
-        self.local_minutes();
-        self.requests
+    for at in 0..zone.transitions.len().min(8) {
+        minutes.extend(sides(zone, at));
     }
-
-    /// Next from the one instant on, previous from the other down.
-    fn both_ways(&mut self, up_from: i64, down_from: i64) {
-        let (word, count) = (&self.word, self.in_turn);
-        self.requests.push(format!("next {word} {up_from} {count}"));
-        self.requests
-            .push(format!("previous {word} {down_from} {count}"));
-    }
-
-    fn once(&mut self, instant: i64) {
-        let word = &self.word;
-        self.requests.push(format!("next {word} {instant} 1"));
-        self.requests.push(format!("previous {word} {instant} 1"));
-    }
-
-    /// The ends of the 64-bit numbers, where an offset would overflow, and those of the window.
-    fn at_the_extremes(&mut self) {
-        self.both_ways(i64::MIN, i64::MAX);
-        for instant in [i64::MIN, i64::MAX, i64::MIN + 720, i64::MAX - 840] {
-            self.once(instant);
-        }
-        let any = self.random.any();
-        self.once(any);
-        for end in [FIRST_INSTANT, LAST_INSTANT] {
-            let near = end + self.random.between(-2_000, 2_000);
-            for instant in [end - 1, end, end + 1, near] {
-                self.once(instant);
-            }
-        }
-    }
-
-    fn around_a_transition(&mut self) {
-        let chosen = self.chosen(self.plan.zone.transitions.len());
-        let at = self.plan.zone.transitions[chosen].instant;
-        let (before, after) = (self.random.between(0, 1_600), self.random.between(0, 1_600));
-        self.both_ways(at - before, at + after);
-        let near = at + self.random.between(-181, 181);
-        for instant in [at - 1, at, at + 1, near] {
-            self.once(instant);
-        }
-    }
-
-    /// The instant of an extra or excepted minute, or of the start or *last* of a rule, and those beside it.
-    fn around_a_named_minute(&mut self) {
-        let named: Vec<i64> = self.plan.frames.iter().flat_map(named_by).collect();
-        if !named.is_empty() {
-            let minute = named[self.chosen(named.len())];
-            let instant = self.plan.zone.instant_of(minute);
-            for asked in [instant - 1, instant, instant + 1] {
-                self.once(asked);
-            }
-        }
-    }
-
-    fn chosen(&mut self, choices: usize) -> usize {
-        self.random.between(0, choices as i64 - 1) as usize
-    }
-
-    /// Minutes in and around gaps and doubled hours, at both ends of the window and outside it.
-    fn local_minutes(&mut self) {
-        let mut minutes = vec![
-            i64::MIN,
-            FIRST_MINUTE - 1,
-            FIRST_MINUTE,
-            LAST_MINUTE,
-            LAST_MINUTE + 1,
-            i64::MAX,
-            self.random.any(),
-        ];
-        for _ in 0..20 {
-            minutes.push(near_a_transition(&self.plan.zone, self.random));
-            minutes.push(any_instant(self.random));
-        }
-        for at in 0..self.plan.zone.transitions.len().min(8) {
-            minutes.extend(sides(&self.plan.zone, at));
-        }
-        let words: Vec<String> = minutes.iter().map(i64::to_string).collect();
-        self.requests
-            .push(format!("local {} {}", self.word, words.join(" ")));
-    }
+    minutes.iter().map(i64::to_string).collect()
 }
 
 /// The first and the last minute of a gap or a doubled hour, and those beside them.

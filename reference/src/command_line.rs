@@ -6,8 +6,8 @@ usage: reference compare SUITE [--seed S] [--times N] [--patience SECONDS] -- DR
        reference dump meanings [--seed S] [--sheets N] [--plans N]
        reference answer
 
-  compare  sends the requests of SUITE (dates, zones, frames, lines or plans) to the driver and compares its answers;
-           a driver that sends no further answer for SECONDS (60 where none are given) is killed and has failed
+  compare  sends the requests of SUITE (dates, zones, frames, lines, plans or sheets) to the driver and compares its
+           answers; a driver that sends no further answer for SECONDS (60 where none are given) is killed and has failed
   dump     prints WHAT (dates, rules, cron or zones) for the programs in peers/, or sheets and plans with
            their answers for tools/try-meanings
   answer   is a driver itself: request lines on standard input, answer lines on standard output";

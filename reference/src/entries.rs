@@ -6,8 +6,9 @@ use std::rc::Rc;
 
 use crate::compile::plan_text;
 use crate::local::is_local_minute;
-use crate::meaning::Meaning;
+use crate::meaning::{of_sheet, Meaning};
 use crate::plan::{self, Plan};
+use crate::sheet::line::Line;
 use crate::sheet::{self, Refusal};
 
 #[derive(Clone, Copy, Debug, Default, PartialEq, Eq)]
@@ -29,6 +30,10 @@ pub struct Found {
 /// The answer, and the plan that fills the buffer's front; nothing is written on a refusal.
 pub fn compile(sheet: &[u8], buffer_length: usize) -> (Compiled, String) {
     let plan = sheet::read(sheet).map(|lines| plan_text(&lines));
+    written(plan, buffer_length)
+}
+
+fn written(plan: Result<String, Refusal>, buffer_length: usize) -> (Compiled, String) {
     // 9: "sheet is taken but the plan is longer than the lent buffer; line 0"
     let fitting = plan.and_then(|text| match text.len() <= buffer_length {
         true => Ok(text),
@@ -54,6 +59,56 @@ fn refused(refusal: Refusal) -> Compiled {
         length: 0,
         bad_at: refusal.bad_at,
         bad_length: refusal.bad_length,
+    }
+}
+
+/// A sheet as the entry points see it: its taken lines and their plan, or its refusal 1 to 8. What it means is made when
+/// first asked for, from its text: "never by way of a plan or the compiler".
+pub struct Read {
+    lines: Vec<Line>,
+    plan: Result<String, Refusal>,
+    meaning: RefCell<Option<Rc<Meaning>>>,
+}
+
+impl Read {
+    pub fn new(sheet: &[u8]) -> Read {
+        let (lines, refusal) = match sheet::read(sheet) {
+            Ok(lines) => (lines, None),
+            Err(refusal) => (Vec::new(), Some(refusal)),
+        };
+        Read {
+            plan: refusal.map_or_else(|| Ok(plan_text(&lines)), Err),
+            lines,
+            meaning: RefCell::new(None),
+        }
+    }
+
+    /// As `compile`.
+    pub fn compile(&self, buffer_length: usize) -> (Compiled, String) {
+        written(self.plan.clone(), buffer_length)
+    }
+
+    /// Next of a taken sheet's plan: what its text means.
+    pub fn next(&self, asked: i64) -> Found {
+        found_or_none(self.meaning().next(asked))
+    }
+
+    pub fn previous(&self, asked: i64) -> Found {
+        found_or_none(self.meaning().previous(asked))
+    }
+
+    fn meaning(&self) -> Rc<Meaning> {
+        let mut made = self.meaning.borrow_mut();
+        Rc::clone(made.get_or_insert_with(|| Rc::new(of_sheet(&self.lines))))
+    }
+}
+
+/// The instant, or 11: "no such instant".
+fn found_or_none(instant: Option<i64>) -> Found {
+    Found {
+        number: if instant.is_some() { 0 } else { 11 },
+        line: 0,
+        instant: instant.unwrap_or(0),
     }
 }
 

@@ -4,8 +4,8 @@ use std::time::Duration;
 
 use reference::command_line::{read, Command, Options, USAGE};
 use reference::{
-    answer, cases_dates, cases_frames, cases_lines, cases_plans, cases_zones, compare, dump,
-    meanings,
+    answer, cases_dates, cases_frames, cases_lines, cases_plans, cases_sheets, cases_zones,
+    compare, dump, meanings,
 };
 
 fn main() -> ExitCode {
@@ -39,6 +39,7 @@ fn compare_suite(suite: &str, options: &Options, driver: &[String]) -> io::Resul
         "frames" => cases_frames::requests(options.seed, options.times),
         "lines" => cases_lines::requests(options.seed, options.times),
         "plans" => cases_plans::requests(options.seed, options.times),
+        "sheets" => cases_sheets::requests(options.seed, options.times),
         "zones" => cases_zones::requests(options.seed, options.times),
         _ => return Err(unknown(suite)),
     };

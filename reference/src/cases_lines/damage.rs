@@ -30,7 +30,7 @@ pub fn everywhere() -> Vec<Case> {
     all
 }
 
-fn at_every_byte(line: &[u8]) -> Vec<Vec<u8>> {
+pub fn at_every_byte(line: &[u8]) -> Vec<Vec<u8>> {
     let mut all = vec![line.to_vec()];
     all.extend(BYTES.iter().map(|&byte| [line, &[byte]].concat()));
     for at in 0..line.len() {

@@ -110,6 +110,12 @@ pub fn all() -> Vec<Case> {
     all
 }
 
+/// Lines of just so many bytes that are taken after others, where they are at most 256.
+pub fn lists_of(length: usize) -> Vec<Vec<u8>> {
+    let lines = LISTS.iter().map(|long| of_length(long, length));
+    lines.filter(|line| line.len() == length).collect()
+}
+
 fn place_of(line: &str) -> Context {
     let [after_zone, _, after_lines] = contexts::of_others();
     match &line[..1] {

@@ -1,14 +1,14 @@
 //! The suite `lines`: one sheet line and what stands before it.
 
 mod contexts;
-mod damage;
-mod lengths;
 mod limits;
 mod rooms;
 mod rounds;
 mod rules;
 mod well_formed;
 
+pub mod damage;
+pub mod lengths;
 pub mod ranks;
 
 use crate::answer_lines::{request, Context};

@@ -16,8 +16,20 @@ pub fn full_sheet(random: &mut Random) -> String {
     while lines.len() <= MOST_TRANSITIONS {
         lines = zone_lines(random);
     }
+    filled_up(lines, MOST_LINES, random)
+}
+
+/// A sheet of so many lines, some of which are the zone's.
+pub fn sheet_of_lines(number: usize, random: &mut Random) -> String {
+    let mut lines = zone_lines(random);
+    lines.truncate(random.between(1, number as i64) as usize);
+    filled_up(lines, number, random)
+}
+
+/// The zone's lines and lines of other kinds, so many in all.
+fn filled_up(mut lines: Vec<String>, number: usize, random: &mut Random) -> String {
     let zone = zone_of(&read(text_of(&lines).as_bytes()).unwrap_or_default());
-    while lines.len() < MOST_LINES {
+    while lines.len() < number {
         let near = written(near_a_transition(&zone, random));
         lines.push(match random.between(0, 7) {
             0 => format!("D {near}"),

@@ -15,7 +15,7 @@ pub use bad_plan::{
 };
 pub use bad_sheet::{bad_sheet, refused_sheet};
 pub use cron::cron_line;
-pub use edge_sheets::{empty_sheet, ends_sheet, full_sheet, midnight_sheet};
+pub use edge_sheets::{empty_sheet, ends_sheet, full_sheet, midnight_sheet, sheet_of_lines};
 pub use rule::{all_positions, large_set_rule_line, rule_line};
 pub use zones::{offset_text, zone_lines};
 

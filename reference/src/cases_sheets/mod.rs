@@ -1,0 +1,107 @@
+//! The suite `sheets`: whole sheets, compiled into buffers of every length, and what is then asked of their plans.
+
+pub mod faults;
+pub mod lengths;
+
+mod asked;
+mod rooms;
+
+use crate::answer_sheets::request;
+use crate::cases_lines::damage::{at_every_byte, damaged};
+use crate::cases_plans::{sheets_at_the_ends, sheets_of_positions, some_sheet, EVERY_KIND, SORTS};
+use crate::generate::{bad_sheet, edge_lines, refused_sheet, sheet_of_lines};
+use crate::random::Random;
+
+/// Rounds for `--times 1`.
+const ROUNDS: u64 = 128;
+const MOST_LINES: u64 = 64;
+const REFUSED_BY: [u64; 8] = [1, 2, 3, 4, 5, 6, 7, 8];
+const DAMAGES: u64 = 8;
+
+/// The most that the driver lends; no plan is so long.
+pub const MOST_ROOM: usize = 16_384;
+
+/// Document 01's whole example.
+const EXAMPLE: &str = "\
+Z +0100
+T 20260329T0100 +0200
+T 20261025T0100 +0100
+C 30 2 * * *
+";
+
+/// A line of every kind. It is damaged at every byte.
+const SMALL: &str = "\
+Z +0100
+T 20260329T0100 +0200
+C 30 2 * * 1-5
+R 20260131T0600 FREQ=MONTHLY;BYDAY=SA,-1SU;COUNT=3
+D 20260329T0230
+X 20260329T0330
+";
+
+/// Lines after which an edge line stands.
+const BEFORE: [&str; 3] = ["", "Z +0100\n", EXAMPLE];
+
+/// All requests; with `times` 0 all but the rounds of random ones.
+pub fn requests(seed: u64, times: u64) -> Box<dyn Iterator<Item = String>> {
+    let mut random = Random::new(seed);
+    let mut fixed = Vec::new();
+    for sheet in fixed_sheets(&mut random) {
+        fixed.extend(compiled(&sheet, &mut random));
+    }
+    for sheet in ["", "\n", "Z +0000\n", EXAMPLE, SMALL] {
+        fixed.extend(rooms::each(sheet.as_bytes()));
+    }
+    for sheet in searched_sheets() {
+        fixed.extend(about(sheet.as_bytes(), &mut random));
+    }
+    let rounds = times.saturating_mul(ROUNDS);
+    let rounds = (0..rounds).flat_map(move |number| round(number, &mut random));
+    Box::new(fixed.into_iter().chain(rounds))
+}
+
+/// Sheets that are only compiled.
+fn fixed_sheets(random: &mut Random) -> Vec<Vec<u8>> {
+    let mut all = lengths::all();
+    all.extend(faults::all(random));
+    all.extend(at_every_byte(SMALL.as_bytes()));
+    for line in edge_lines() {
+        all.extend(BEFORE.map(|before| format!("{before}{line}\n").into_bytes()));
+    }
+    all
+}
+
+fn searched_sheets() -> Vec<String> {
+    let written = [EXAMPLE, SMALL, EVERY_KIND].map(str::to_string);
+    let all = written.into_iter().chain(sheets_at_the_ends());
+    all.chain(sheets_of_positions()).collect()
+}
+
+/// A sheet of a sort and one of so many lines, which are taken; damaged ones; and one for each refusal.
+fn round(number: u64, random: &mut Random) -> Vec<String> {
+    let lines = 1 + number % MOST_LINES;
+    let some = some_sheet(number % SORTS, random);
+    let mixed = sheet_of_lines(lines as usize, random);
+    let mut all = about(some.as_bytes(), random);
+    all.extend(about(mixed.as_bytes(), random));
+    for _ in 0..DAMAGES {
+        all.extend(compiled(&damaged(mixed.as_bytes(), random), random));
+    }
+    for refusal in REFUSED_BY {
+        all.extend(compiled(&refused_sheet(refusal, random), random));
+        all.extend(compiled(&bad_sheet(refusal, random), random));
+    }
+    all
+}
+
+fn compiled(sheet: &[u8], random: &mut Random) -> Vec<String> {
+    let rooms = rooms::about(sheet, random).into_iter();
+    rooms.map(|room| request(room, sheet)).collect()
+}
+
+/// Everything that is asked of a taken sheet.
+fn about(sheet: &[u8], random: &mut Random) -> Vec<String> {
+    let mut all = compiled(sheet, random);
+    all.extend(asked::all(sheet, random));
+    all
+}
