@@ -24,10 +24,6 @@
 #include "evandrusk.h"
 #include "shown.h"
 
-/* For the time being: include/evandrusk.h will have these two. */
-typedef struct { uint64_t number, line, length, bad_at, bad_length; } evk_compiled;
-evk_compiled evk_compile(const uint8_t *sheet, size_t sheet_length, uint8_t *plan, size_t plan_length);
-
 enum { CALLS = 2, MOST_ROOM = 16384 };
 
 typedef evk_found search(const uint8_t *plan, size_t plan_length, int64_t asked);
