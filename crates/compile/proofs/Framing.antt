@@ -10,7 +10,7 @@ use lib.Dec.{ltb, eqb}
 use lib.ListN.{length}
 use Rattle.framed.specs.Framed.{frameOf}
 use Rattle.line.proofs.Numbered.{lined-number, lined-frame, lined-is}
-use Rattle.line.specs.Lined.{beforeAs, contextAs, lined, numberOf}
+use Rattle.line.specs.Lined.{beforeAs, contextAs, lined, refusalOf}
 use Rattle.line.specs.declared.Before.{Before}
 use Rattle.line.specs.declared.Context.{Context}
 use Rattle.line.specs.declared.Lined.{Lined}
@@ -103,7 +103,7 @@ module _ (n at : ℕ) (c : Context) (line : List ℕ) (more : List (List ℕ)) (
   read-stop number e = by-form (formOf line) refl
     where
       is : lineRefusal (contextAs c) line ≡ number
-      is = sym (lined-number (contextAs c) line) ∙ ap numberOf e
+      is = sym (lined-number (contextAs c) line) ∙ ap refusalOf e
 
       by-number : (f : Form) → formOf line ≡ some f → (b : Bool) → eqb (lineRefusal (contextAs c) line) 0 ≡ b → readFrom n (contextAs c) (line ∷ more) tail ≡ refusedSheet number (n + 1)
       by-number f o true z =

@@ -60,7 +60,7 @@ module _ (c : Context) where
         frameIn (Lined.Refused n) = frame
 
         number : lineRefusal c line ≡ 0
-        number = sym lined-number ∙ ap numberOf e
+        number = sym lined-number ∙ ap refusalOf e
 
         by-number : (f : Form) → formOf line ≡ some f → (b : Bool) → eqb (formRefusal c f) 0 ≡ b → cond b (Lined.Is (frameOf f)) (Lined.Refused (formRefusal c f)) ≡ Lined.Is frame → LinedIs frame
         by-number f g true h e = record { form = f; of = g; fine = eqb-true (formRefusal c f) 0 h; whole = number; same = sym (ap frameIn e) }
