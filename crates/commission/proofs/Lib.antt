@@ -1,0 +1,4 @@
+-- The laws of the commissioning program.
+pub mod Digits
+pub mod Answering
+pub mod Reading

@@ -1,0 +1,75 @@
+-- Too long, the plan or the refusal.
+use mathlib.Core.List.{_++_}
+use mathlib.Core.Path.{sym, _∙_}
+use Prim.Native.Nat.{_<_}
+use native.Mathlib.Omega.{arith}
+use denote.Ref.{now}
+use lib.ListN.{length, length-append}
+use lib.Seq.{length-take-le}
+use Rattle.commission.proofs.Answering.{too-long, within, planned, refused}
+use borrow.Author.Needs.{needs}
+use Rattle.commission.proofs.answer.answer.Statement.{statement}
+use Rattle.commission.proofs.answer.answer.Tie as tie
+
+refuse-requires : tie.Need-refuse-requires
+refuse-requires c κs = search needs
+
+same-length : tie.Need-same-length
+same-length c = search needs
+
+returns : tie.Need-returns
+returns c =
+    let a = c .before .before .before .before .before .before .before .before .args in
+    let r = c .before .before .refuse .ensures in
+    let long : 16448 < length (now (a .sheet) ++ now (a .more)) = omega (arith, length-append (now (a .sheet)) (now (a .more)), c .before .before .before .before .before .before .before .before .pre .1 (c .before .before .before .before .if1 .taken), c .before .before .before .before .if1 .taken) in
+    (r .0, r .1 ∙ sym (too-long (now (a .sheet) ++ now (a .more)) 16448 long))
+
+compile-requires : tie.Need-compile-requires
+compile-requires c κs = search needs
+
+enum-known-compiled : tie.Need-enum-known-compiled
+enum-known-compiled c = search needs
+
+enum-known-compiled-2 : tie.Need-enum-known-compiled-2
+enum-known-compiled-2 c = search needs
+
+refuse-requires-2 : tie.Need-refuse-requires-2
+refuse-requires-2 c κs = search needs
+
+same-length-2 : tie.Need-same-length-2
+same-length-2 c = search needs
+
+returns-2 : tie.Need-returns-2
+returns-2 c =
+    let a = c .before .before .before .before .before .before .before .before .before .before .before .args in
+    let r = c .before .before .before .before .before .compile in
+    let k = c .before .compiled .given .0 .0 in
+    let e = sym (c .before .compiled .given .1) ∙ r .ensures .0 in
+    let short = within (now (a .sheet)) (now (a .more)) (now (a .out)) (c .before .before .before .before .before .before .before .if1 .left) (c .before .before .before .before .before .before .before .before .before .before .before .pre .0) _ k e (r .ensures .1) in
+    ((short, sym (length-take-le k _ short)), planned (now (a .sheet)) (now (a .more)) (now (a .out)) (c .before .before .before .before .before .before .before .if1 .left) (c .before .before .before .before .before .before .before .before .before .before .before .pre .0) _ k e (r .ensures .1))
+
+same-length-3 : tie.Need-same-length-3
+same-length-3 c = search needs
+
+returns-3 : tie.Need-returns-3
+returns-3 c =
+    let a = c .before .before .before .before .before .before .before .before .before .before .before .before .before .before .before .args in
+    let r = c .before .before .refuse2 .ensures in
+    let e = sym (c .before .before .before .before .before .compiled2 .given .1) ∙ c .before .before .before .before .before .before .before .before .before .compile .ensures .0 in
+    (r .0, r .1 ∙ refused (now (a .sheet)) (now (a .more)) (now (a .out)) (c .before .before .before .before .before .before .before .before .before .before .before .if1 .left) (c .before .before .before .before .before .before .before .before .before .before .before .before .before .before .before .pre .0) _ e)
+
+pub answer-spec : {M : Type 1} → statement M
+answer-spec =
+    tie.close
+    (tie.spec
+    refuse-requires
+    same-length
+    returns
+    compile-requires
+    enum-known-compiled
+    enum-known-compiled-2
+    refuse-requires-2
+    same-length-2
+    returns-2
+    same-length-3
+    returns-3)

@@ -1,0 +1,3 @@
+-- What the commissioning program reads and writes.
+pub mod Answer
+pub mod Read
