@@ -30,7 +30,7 @@ enum {
     EVK_BAD_LINE = 2,     /* a line over 256 bytes, with a byte outside 20 to 7E, or without LF */
     EVK_BAD_FORM = 3,     /* a line of no listed form, an unknown name or value word */
     EVK_BAD_PLACE = 4,    /* a line where it may not stand, or no line at all */
-    EVK_OUT_OF_RANGE = 5, /* a number outside its range, or a date, day or ISO date that is not in the calendar */
+    EVK_OUT_OF_RANGE = 5, /* a number outside its range, a cron range that falls, or a date, day or ISO date not in the calendar */
     EVK_BAD_PARTS = 6,    /* rule parts that do not go together */
     EVK_BAD_CHANGE = 7,   /* a transition too near the one before it, or of too many minutes or none */
     EVK_BAD_START = 8,    /* a start that is no occurrence of its rule, or UNTIL before it */
@@ -64,9 +64,10 @@ evk_iso evk_iso_of_day(int64_t day);
 evk_day evk_day_of_iso(int64_t year, int64_t week, int64_t weekday);
 
 /* Compiles a sheet to a plan in the buffer `plan`. EVK_TAKEN and the plan's length: its bytes are the buffer's first, and
-   every byte after them is as it was. Else the first bad line decides, and in it the lowest number: `line`, from 1, with
-   the line without its LF at `bad_at`, of `bad_length` bytes; 0 where no line is bad (EVK_TOO_LONG, EVK_NO_ROOM); and no
-   byte of the buffer is changed. No plan is longer than 4989 bytes. */
+   every byte after them is as it was. Else EVK_TOO_LONG, whatever its lines; else the first bad line decides, and in it
+   the lowest number: `line`, from 1, with the line without its LF at `bad_at`, of `bad_length` bytes; else EVK_NO_ROOM.
+   On a refusal no byte of the buffer is changed; of the two that are of no line, `line` and the place are 0. No plan is
+   longer than 4989 bytes: a Z and 63 rules. */
 evk_compiled evk_compile(const uint8_t *sheet, size_t sheet_length, uint8_t *plan, size_t plan_length);
 
 /* Whether a plan is taken; if not, EVK_NO_PLAN and its line. A plan of no bytes is refused at line 1. */

@@ -7,13 +7,13 @@ ghost use Rattle.commission.specs.Read.{Within, Past};
 const MOST: usize = 16448;
 
 // How many bytes came before the input's end or the buffer's; or a read failed.
-pub enum Input {
+pub(crate) enum Input {
     Is(usize),
     Failed,
 }
 
 // Reads until the buffer is full or the input ends.
-pub fn fill(buffer: &mut [u8]) -> Input
+pub(crate) fn fill(buffer: &mut [u8]) -> Input
     ensures { λ r. ⌜ Within r (length (now (buffer .exit))) ⌝ }
 {
     let mut n = 0;
@@ -32,7 +32,7 @@ pub fn fill(buffer: &mut [u8]) -> Input
 }
 
 // Behind a full sheet one more byte is asked for.
-pub fn past(n: usize, more: &mut [u8]) -> Input
+pub(crate) fn past(n: usize, more: &mut [u8]) -> Input
     ensures { λ r. ⌜ Within r (length (now (more .exit))) ⌝ }
     ensures { λ r. ⌜ Past r n ⌝ }
 {
