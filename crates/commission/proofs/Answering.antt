@@ -1,8 +1,7 @@
 -- Texts one behind the other in a buffer's front, and the answer there.
-use mathlib.Core.Bool.{true}
 use mathlib.Core.List.{List, [], _∷_, _++_, append-assoc, append-nil}
 use mathlib.Core.Path.{_≡_, refl, sym, ap, subst, _∙_}
-use Prim.Native.Nat.{ℕ, suc, _+_, _-_, _<_, _≤_}
+use Prim.Native.Nat.{ℕ, _+_, _<_, _≤_}
 use native.Mathlib.Omega.{arith}
 use borrow.Author.Tests.{lt-ltb}
 use lib.ListN.{length, take, drop, length-append}
@@ -15,6 +14,11 @@ use Rattle.compile.specs.declared.Compiled.{Compiled as Answer}
 use Rattle.compile.specs.declared.Refusal.{Refusal}
 use Rattle.sheet.specs.Refusals.{tooLong}
 use Rattle.commission.specs.Answer.{answerOf, decimal, refusalText}
+
+-- "5 64" and LF
+pub marked : refusalText 5 64 ≡ 53 ∷ 32 ∷ 54 ∷ 52 ∷ 10 ∷ []
+unfolding refusalText decimal
+marked = refl
 
 module _ (out part rest post : List ℕ) (at : ℕ) where
   pub appended : at ≤ length out → take (at + length part) (take at out ++ ((take (length part) part ++ rest) ++ post)) ≡ take at out ++ part
@@ -62,12 +66,8 @@ module _ (sheet more buffer : List ℕ) (last : length more ≤ 0) (room : 16448
   whole : compile sheet (length buffer) ≡ compile (sheet ++ more) 16448
   whole = ap (λ (n : ℕ). compile sheet n) (sym room) ∙ ap (λ (l : List ℕ). compile l 16448) (none-more sheet more last)
 
-  module _ (left : List ℕ) (k : ℕ) (e : Answer.Plan k ≡ compiledAs (compile sheet (length buffer))) (f : left ≡ leftIn buffer (compile sheet (length buffer))) where
-    pub planned : take k left ≡ answerOf (compile (sheet ++ more) 16448)
-    planned = ap (take k) f ∙ plan-in (compile sheet (length buffer)) buffer k e ∙ ap answerOf whole
-
-    pub within : k ≤ length left
-    within = subst (λ (l : List ℕ). k ≤ length l) (sym f) (plan-short (compile sheet (length buffer)) buffer k e)
+  pub planned : (left : List ℕ) (k : ℕ) → Answer.Plan k ≡ compiledAs (compile sheet (length buffer)) → left ≡ leftIn buffer (compile sheet (length buffer)) → (k ≤ length left) × (take k left ≡ answerOf (compile (sheet ++ more) 16448))
+  planned left k e f = let c = compile sheet (length buffer) in (subst (λ (l : List ℕ). k ≤ length l) (sym f) (plan-short c buffer k e), ap (take k) f ∙ plan-in c buffer k e ∙ ap answerOf whole)
 
   pub refused : (r : Refusal) → Answer.Refused r ≡ compiledAs (compile sheet (length buffer)) → refusalText (r .number) (r .line) ≡ answerOf (compile (sheet ++ more) 16448)
   refused r e = refusal-in (compile sheet (length buffer)) r e ∙ ap answerOf whole

@@ -1,12 +1,10 @@
 -- The fewest digits that hold a number are its decimal digits.
-use mathlib.Core.Bool.{cond, true, false}
-use mathlib.Core.List.{List, [], _∷_, _++_}
 use mathlib.Core.Path.{_≡_, refl, sym, ap, subst, _∙_}
-use Prim.Native.Nat.{ℕ, zero, suc, _+_, _-_, _*_, _/_, _%_, _^_, _≤_, _<_}
+use Prim.Native.Nat.{ℕ, zero, suc, _+_, _-_, _/_, _%_, _^_, _≤_, _<_}
 use native.Mathlib.Nat.{pow-suc, mod-eq-of-lt, le-div-iff-mul-le, div-lt-iff-lt-mul, mod-lt, pow-le-pow-right, lt-of-not-le, not-le-of-lt, le-trans}
 use native.Mathlib.Omega.{arith}
 use borrow.Author.Tests.{lt-ltb, le-ltb}
-use lib.Dec.{lit<, lit≤, ltb}
+use lib.Dec.{lit<, lit≤}
 use Rattle.io.specs.Digits.{digits, glyph, Fewest}
 use Rattle.commission.specs.Answer.{decimalWithin, decimal}
 use Rattle.lines.specs.Bytes.{byte}

@@ -1,5 +1,4 @@
 // Standard input, however its bytes come.
-ghost use Prim.Native.Nat.{_<_, _≤_};
 ghost use lib.ListN.{length};
 ghost use Rattle.commission.specs.Read.{Within, Past};
 

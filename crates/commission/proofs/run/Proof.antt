@@ -1,5 +1,6 @@
 -- What came lies within the buffers, and a byte came behind the sheet only where the sheet is full.
 use mathlib.Core.Path.{sym}
+use Prim.Native.Nat.{_≤_}
 use lib.ListN.{length}
 use lib.Seq.{length-take-le}
 use Rattle.commission.proofs.Reading.{counted, behind, lent}
@@ -40,25 +41,33 @@ same-length-3 c = search needs
 returns-2 : tie.Need-returns-2
 returns-2 c = search needs
 
+-- how many bytes came: of the sheet, and behind it
+sheet-is : (c : tie.After-read) → c .read .given .0 .0 ≤ length (c .before .before .before .before .fill .last .0)
+sheet-is c = counted (c .before .before .before .before .fill .result) (c .read .given .0 .0) (c .read .given .1) (length (c .before .before .before .before .fill .last .0)) (c .before .before .before .before .fill .ensures)
+
+more-is : (c : tie.After-past2) → c .past2 .given .0 .0 ≤ length (c .before .before .before .before .past .last .1 .0)
+more-is c = counted (c .before .before .before .before .past .result) (c .past2 .given .0 .0) (c .past2 .given .1) (length (c .before .before .before .before .past .last .1 .0)) (c .before .before .before .before .past .ensures .0)
+
 slice-reshare-prefix-give : tie.Need-slice-reshare-prefix-give
-slice-reshare-prefix-give c = counted (c .before .before .before .before .before .before .before .before .before .before .before .before .fill .result) (c .before .before .before .before .before .before .before .before .read .given .0 .0) (c .before .before .before .before .before .before .before .before .read .given .1) (length (c .before .before .before .before .before .before .before .before .before .before .before .before .fill .last .0)) (c .before .before .before .before .before .before .before .before .before .before .before .before .fill .ensures)
+slice-reshare-prefix-give c = sheet-is (c .before .before .before .before .before .before .before .before)
 
 slice-aggregate-give : tie.Need-slice-aggregate-give
-slice-aggregate-give c = sym (length-take-le (c .before .before .before .before .before .before .before .before .before .read .given .0 .0) (c .before .before .before .before .before .before .before .before .before .before .before .before .before .fill .last .0) (counted (c .before .before .before .before .before .before .before .before .before .before .before .before .before .fill .result) (c .before .before .before .before .before .before .before .before .before .read .given .0 .0) (c .before .before .before .before .before .before .before .before .before .read .given .1) (length (c .before .before .before .before .before .before .before .before .before .before .before .before .before .fill .last .0)) (c .before .before .before .before .before .before .before .before .before .before .before .before .before .fill .ensures)))
+slice-aggregate-give c = sym (length-take-le (c .before .before .before .before .before .before .before .before .before .read .given .0 .0) (c .before .before .before .before .before .before .before .before .before .before .before .before .before .fill .last .0) (sheet-is (c .before .before .before .before .before .before .before .before .before)))
 
 slice-reshare-prefix-give-2 : tie.Need-slice-reshare-prefix-give-2
-slice-reshare-prefix-give-2 c = counted (c .before .before .before .before .before .before .past .result) (c .before .before .past2 .given .0 .0) (c .before .before .past2 .given .1) (length (c .before .before .before .before .before .before .past .last .1 .0)) (c .before .before .before .before .before .before .past .ensures .0)
+slice-reshare-prefix-give-2 c = more-is (c .before .before)
 
 slice-aggregate-give-2 : tie.Need-slice-aggregate-give-2
-slice-aggregate-give-2 c = sym (length-take-le (c .before .before .before .past2 .given .0 .0) (c .before .before .before .before .before .before .before .past .last .1 .0) (counted (c .before .before .before .before .before .before .before .past .result) (c .before .before .before .past2 .given .0 .0) (c .before .before .before .past2 .given .1) (length (c .before .before .before .before .before .before .before .past .last .1 .0)) (c .before .before .before .before .before .before .before .past .ensures .0)))
+slice-aggregate-give-2 c = sym (length-take-le (c .before .before .before .past2 .given .0 .0) (c .before .before .before .before .before .before .before .past .last .1 .0) (more-is (c .before .before .before)))
 
 give-requires : tie.Need-give-requires
 give-requires c κs =
-    let f = c .before .before .before .before .before .before .before .before .before .before .before .before .before .before .before .fill in
-    let n = c .before .before .before .before .before .before .before .before .before .before .before .read .given in
+    let n = c .before .before .before .before .before .before .before .before .before .before .before .read .given .0 .0 in
     let p = c .before .before .before .before .before .before .before .before .past in
-    let k = c .before .before .before .before .past2 .given in
-    (c .before .before .before .before .before .before .before .before .before .before .before .before .before .before .before .before .before .before .before .before .pre, lent (f .last .0) (p .last .1 .0) (n .0 .0) (k .0 .0) (counted (c .before .before .before .before .before .before .before .before .before .before .before .before .before .before .before .fill .result) (c .before .before .before .before .before .before .before .before .before .before .before .read .given .0 .0) (c .before .before .before .before .before .before .before .before .before .before .before .read .given .1) (length (c .before .before .before .before .before .before .before .before .before .before .before .before .before .before .before .fill .last .0)) (c .before .before .before .before .before .before .before .before .before .before .before .before .before .before .before .fill .ensures)) (counted (c .before .before .before .before .before .before .before .before .past .result) (c .before .before .before .before .past2 .given .0 .0) (c .before .before .before .before .past2 .given .1) (length (c .before .before .before .before .before .before .before .before .past .last .1 .0)) (c .before .before .before .before .before .before .before .before .past .ensures .0)) (behind (p .result) (k .0 .0) (k .1) (n .0 .0) (p .ensures .1)))
+    let k = c .before .before .before .before .past2 .given in (
+      c .before .before .before .before .before .before .before .before .before .before .before .before .before .before .before .before .before .before .before .before .pre,
+      lent (c .before .before .before .before .before .before .before .before .before .before .before .before .before .before .before .fill .last .0) (p .last .1 .0) n (k .0 .0) (sheet-is (c .before .before .before .before .before .before .before .before .before .before .before)) (more-is (c .before .before .before .before)) (behind (p .result) (k .0 .0) (k .1) n (p .ensures .1)),
+    )
 
 same-length-4 : tie.Need-same-length-4
 same-length-4 c = search needs

@@ -6,7 +6,7 @@ use native.Mathlib.Omega.{arith}
 use denote.Ref.{now}
 use lib.ListN.{length, length-append}
 use lib.Seq.{length-take-le}
-use Rattle.commission.proofs.Answering.{too-long, within, planned, refused}
+use Rattle.commission.proofs.Answering.{too-long, planned, refused}
 use borrow.Author.Needs.{needs}
 use Rattle.commission.proofs.answer.answer.Statement.{statement}
 use Rattle.commission.proofs.answer.answer.Tie as tie
@@ -19,10 +19,13 @@ same-length c = search needs
 
 returns : tie.Need-returns
 returns c =
-    let a = c .before .before .before .before .before .before .before .before .args in
+    let start = c .before .before .before .before .before .before .before .before in
+    let sheet = now (start .args .sheet) in
+    let more = now (start .args .more) in
+    let came = c .before .before .before .before .if1 .taken in
     let r = c .before .before .refuse .ensures in
-    let long : 16448 < length (now (a .sheet) ++ now (a .more)) = omega (arith, length-append (now (a .sheet)) (now (a .more)), c .before .before .before .before .before .before .before .before .pre .1 (c .before .before .before .before .if1 .taken), c .before .before .before .before .if1 .taken) in
-    (r .0, r .1 ∙ sym (too-long (now (a .sheet) ++ now (a .more)) 16448 long))
+    let long : 16448 < length (sheet ++ more) = omega (arith, length-append sheet more, start .pre .1 (omega (arith, came)), came) in
+    (r .0, r .1 ∙ sym (too-long (sheet ++ more) 16448 long))
 
 compile-requires : tie.Need-compile-requires
 compile-requires c κs = search needs
@@ -41,22 +44,23 @@ same-length-2 c = search needs
 
 returns-2 : tie.Need-returns-2
 returns-2 c =
-    let a = c .before .before .before .before .before .before .before .before .before .before .before .args in
+    let start = c .before .before .before .before .before .before .before .before .before .before .before in
+    let a = start .args in
     let r = c .before .before .before .before .before .compile in
-    let k = c .before .compiled .given .0 .0 in
-    let e = sym (c .before .compiled .given .1) ∙ r .ensures .0 in
-    let short = within (now (a .sheet)) (now (a .more)) (now (a .out)) (c .before .before .before .before .before .before .before .if1 .left) (c .before .before .before .before .before .before .before .before .before .before .before .pre .0) _ k e (r .ensures .1) in
-    ((short, sym (length-take-le k _ short)), planned (now (a .sheet)) (now (a .more)) (now (a .out)) (c .before .before .before .before .before .before .before .if1 .left) (c .before .before .before .before .before .before .before .before .before .before .before .pre .0) _ k e (r .ensures .1))
+    let is = c .before .compiled .given in
+    let p = planned (now (a .sheet)) (now (a .more)) (now (a .out)) (c .before .before .before .before .before .before .before .if1 .left) (start .pre .0) _ (is .0 .0) (sym (is .1) ∙ r .ensures .0) (r .ensures .1) in
+    ((p .0, sym (length-take-le (is .0 .0) _ (p .0))), p .1)
 
 same-length-3 : tie.Need-same-length-3
 same-length-3 c = search needs
 
 returns-3 : tie.Need-returns-3
 returns-3 c =
-    let a = c .before .before .before .before .before .before .before .before .before .before .before .before .before .before .before .args in
+    let start = c .before .before .before .before .before .before .before .before .before .before .before .before .before .before .before in
+    let a = start .args in
     let r = c .before .before .refuse2 .ensures in
-    let e = sym (c .before .before .before .before .before .compiled2 .given .1) ∙ c .before .before .before .before .before .before .before .before .before .compile .ensures .0 in
-    (r .0, r .1 ∙ refused (now (a .sheet)) (now (a .more)) (now (a .out)) (c .before .before .before .before .before .before .before .before .before .before .before .if1 .left) (c .before .before .before .before .before .before .before .before .before .before .before .before .before .before .before .pre .0) _ e)
+    let is = c .before .before .before .before .before .compiled2 .given in
+    (r .0, r .1 ∙ refused (now (a .sheet)) (now (a .more)) (now (a .out)) (c .before .before .before .before .before .before .before .before .before .before .before .if1 .left) (start .pre .0) _ (sym (is .1) ∙ c .before .before .before .before .before .before .before .before .before .compile .ensures .0))
 
 pub answer-spec : {M : Type 1} → statement M
 answer-spec =
