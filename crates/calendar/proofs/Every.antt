@@ -1,11 +1,11 @@
 -- Tests joined and compared; and a test that antt computes for every number below a limit, as a rule at each of them.
 use mathlib.Core.Bool.{Bool, true, false, _&&_, _||_, false≢true}
 use mathlib.Core.Logic.{dite}
-use mathlib.Core.Path.{_≡_, refl, sym, subst, _∙_}
+use mathlib.Core.Path.{_≡_, refl, sym, ap₂, subst, _∙_}
 use Prim.Native.Nat.{ℕ, zero, suc, _<_, _≤_}
 use native.Mathlib.Decide.{decLt, ℕ-discrete}
 use native.Mathlib.Omega.{arith}
-use borrow.Author.Tests.{ne-eqb, leb-true}
+use borrow.Author.Tests.{ne-eqb, leb-true, le-leb}
 use lib.Dec.{T, leb, eqb}
 use Rattle.calendar.specs.Below.{everyBelow, within}
 
@@ -22,8 +22,24 @@ pub both-true : (a b : Bool) → (a && b) ≡ true → (a ≡ true) × (b ≡ tr
 both-true true b e = (refl, e)
 both-true false b e = absurd (false≢true e)
 
+pub both : {a b : Bool} → a ≡ true → b ≡ true → (a && b) ≡ true
+both e f = ap₂ _&&_ e f
+
+-- two that both fail
+pub neither : (a b : Bool) → (a || b) ≡ false → (a ≡ false) × (b ≡ false)
+neither true b e = absurd (false≢true (sym e))
+neither false b e = (refl, e)
+
+-- a Bool by its two cases
+pub decided : {A : Type 0} (b : Bool) → (b ≡ true → A) → (b ≡ false → A) → A
+decided true t f = t refl
+decided false t f = f refl
+
 pub within-range : (low high n : ℕ) → within low high n ≡ true → (low ≤ n) × (n ≤ high)
 within-range low high n e = let r = both-true (leb low n) (leb n high) e in (leb-true low n (r .0), leb-true n high (r .1))
+
+pub range-within : (low high n : ℕ) → low ≤ n → n ≤ high → within low high n ≡ true
+range-within low high n l h = both (le-leb low n l) (le-leb n high h)
 
 -- the order of a test does not matter, nor that of four
 pub same-either-way : (a b : ℕ) → eqb a b ≡ eqb b a

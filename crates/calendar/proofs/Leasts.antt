@@ -1,11 +1,12 @@
 -- What the least and the last of a range of numbers are, that there is one of each, and how a search builds them up.
-use mathlib.Core.Path.{_≡_, refl, sym, _∙_}
+use mathlib.Core.Path.{_≡_, sym, _∙_}
 use mathlib.Core.Bool.{Bool, true, false, true≢false}
 use mathlib.Core.Logic.{dite}
 use Prim.Native.Nat.{ℕ, zero, suc, _+_, _-_, _<_, _≤_}
 use native.Mathlib.Omega.{arith}
 use native.Mathlib.Decide.{decLt}
 use Rattle.calendar.specs.Below.{leastFrom, lastFrom}
+use Rattle.calendar.proofs.Every.{decided}
 
 -- r is the least of the numbers from low up to high that passes, or high
 pub record Least (test : ℕ → Bool) (low high r : ℕ) : Type 0 where
@@ -20,10 +21,6 @@ pub record Last (test : ℕ → Bool) (low high r : ℕ) : Type 0 where
   pub to : r ≤ high
   pub passes : low < r → test (r - 1) ≡ true
   pub fails : (j : ℕ) → r ≤ j → j < high → test j ≡ false
-
-decided : {A : Type 0} (b : Bool) → (b ≡ true → A) → (b ≡ false → A) → A
-decided true t f = t refl
-decided false t f = f refl
 
 pub least-from : (test : ℕ → Bool) (k i : ℕ) → Least test i (i + k) (leastFrom test k i)
 unfolding leastFrom

@@ -19,20 +19,16 @@ use Rattle.plan.specs.Rows.{rowOf, frameIn}
 use Rattle.plan.specs.Text.{wholeLine, planText}
 use Rattle.plan.specs.declared.Frame.{Frame}
 use Rattle.sheet.specs.Form.{Form}
-use Rattle.sheet.specs.Refusals.{Sheet, taken, refused, tooLong, readSheet, badAt, badLength}
+use Rattle.sheet.specs.Refusals.{Sheet, taken, refused, tooLong, readSheet, badLine, badAt, badLength}
 use Rattle.compile.specs.Answers.{compiledAs, leftIn, framesIn}
-use Rattle.compile.specs.Compiled.{Compiled, plan, refusal, compiledFrames, compiledText, compile}
-use Rattle.compile.specs.Reading.{Framed, frames, framed, framesRead, refusalAs, readAs, first}
+use Rattle.compile.specs.Compiled.{Compiled, plan, refusal, framesAfter, compiledFrames, compiledText, compile}
+use Rattle.compile.specs.Reading.{SheetFrames, frames, sheetFrames, framesRead, refusalAs, readAs, first}
 use Rattle.compile.specs.declared.Compiled.{Compiled as Answer}
 use Rattle.compile.specs.declared.Refusal.{Refusal}
-use Rattle.compile.specs.declared.reading.Sheet.{Sheet as Read}
-use Rattle.compile.proofs.Framing.{asFrom, framed-is, frames-read}
+use Rattle.compile.specs.declared.reading.Gathered.{Gathered}
+use Rattle.compile.proofs.Framing.{asFrom, sheet-frames-is, frames-read}
 
--- ---- the frames of some lines after n others, then the end frame
-abbrev framesAfter : ℕ → List Form → List Frame
-framesAfter n [] = Frame.End n ∷ []
-framesAfter n (f ∷ fs) = frameOf f ∷ framesAfter (suc n) fs
-
+-- ---- the frames of a sheet
 frames-after : (fs : List Form) (n : ℕ) → framesAfter n fs ≡ map frameOf fs ++ (Frame.End (n + length fs) ∷ [])
 frames-after [] n = rw add-zero
 frames-after (f ∷ fs) n =
@@ -53,7 +49,7 @@ compiled-length fs =
 -- ---- what compiling is
 module _ (text : List ℕ) (room : ℕ) where
   pub compile-long : tooLong text ≡ true → compile text room ≡ refusal 1 0 0 0
-  unfolding compile readSheet badAt badLength
+  unfolding compile readSheet badLine badAt badLength
   compile-long e = rw (compile, readSheet, e) refl
 
   pub compile-full : (fs : List Form) → readSheet text ≡ taken fs → room < length (compiledText fs) → compile text room ≡ refusal 9 0 0 0
@@ -64,24 +60,20 @@ module _ (text : List ℕ) (room : ℕ) where
   unfolding compile
   compile-fits fs e h = rw (compile, e, le-ltb _ _ h) refl
 
-  pub compile-refused : tooLong text ≡ false → (b : Refusal) → Read.Refused b ≡ readAs (framed text) → compile text room ≡ refusal (b .number) (b .line) (b .at) (b .length)
+  pub compile-refused : tooLong text ≡ false → (b : Refusal) → Gathered.Refused b ≡ readAs (sheetFrames text) → compile text room ≡ refusal (b .number) (b .line) (b .at) (b .length)
   unfolding compile asFrom
-  compile-refused l b e = by-sheet (readSheet text) refl (e ∙ ap readAs (framed-is text l))
+  compile-refused l b e = by-sheet (readSheet text) refl (e ∙ ap readAs (sheet-frames-is text l))
     where
-      refusalIn : Read → Refusal
-      refusalIn (Read.Is n bytes) = b
-      refusalIn (Read.Refused r) = r
-
-      by-sheet : (s : Sheet) → readSheet text ≡ s → Read.Refused b ≡ readAs (asFrom 0 0 (linesOf text .whole) (linesOf text .tail) s) → compile text room ≡ refusal (b .number) (b .line) (b .at) (b .length)
+      by-sheet : (s : Sheet) → readSheet text ≡ s → Gathered.Refused b ≡ readAs (asFrom 0 0 (linesOf text .whole) (linesOf text .tail) s) → compile text room ≡ refusal (b .number) (b .line) (b .at) (b .length)
       by-sheet (taken fs) g e = let z : _≡_ {A = ℕ} 0 1 = cc in absurd (omega arith)
       by-sheet (refused number line) g e =
           let k : line - 0 ≡ line = omega arith in
           let z : 0 + badAt line (linesOf text .whole) ≡ badAt line (linesOf text .whole) = omega arith in
-          let r : b ≡ refusalAs number line (badAt line (linesOf text .whole)) (badLength line (linesOf text .whole) (linesOf text .tail)) = rw (k, z) at (ap refusalIn e) in
+          let r : b ≡ refusalAs number line (badAt line (linesOf text .whole)) (badLength line (linesOf text .whole) (linesOf text .tail)) = cc (k, z) in
           rw (compile, g, r) refl
 
   pub short : tooLong text ≡ false → linesIn text ≤ 64
-  unfolding tooLong linesIn
+  unfolding tooLong
   short e = ltb-false 64 _ (by-bytes (ltb 16448 (length text)) _ e)
     where
       by-bytes : (a b : Bool) → (a || b) ≡ false → b ≡ false
@@ -96,29 +88,21 @@ pub record TakenAs (text : List ℕ) (n bytes : ℕ) : Type 0 where
   pub size : bytes ≡ length (planText (map frameOf forms))
   pub read : framesRead text ≡ map frameOf forms
 
-pub sheet-taken : (text : List ℕ) → tooLong text ≡ false → (n bytes : ℕ) → Read.Is n bytes ≡ readAs (framed text) → TakenAs text n bytes
-unfolding asFrom framed framesRead
-sheet-taken text l n bytes e = by-sheet (readSheet text) refl (framed-is text l)
+pub sheet-taken : (text : List ℕ) → tooLong text ≡ false → (n bytes : ℕ) → Gathered.Is n bytes ≡ readAs (sheetFrames text) → TakenAs text n bytes
+unfolding asFrom sheetFrames framesRead
+sheet-taken text l n bytes e = by-sheet (readSheet text) refl (sheet-frames-is text l)
   where
-    countIn : Read → ℕ
-    countIn (Read.Is m b) = m
-    countIn (Read.Refused r) = 0
-
-    bytesIn : Read → ℕ
-    bytesIn (Read.Is m b) = b
-    bytesIn (Read.Refused r) = 0
-
-    by-sheet : (s : Sheet) → readSheet text ≡ s → framed text ≡ asFrom 0 0 (linesOf text .whole) (linesOf text .tail) s → TakenAs text n bytes
+    by-sheet : (s : Sheet) → readSheet text ≡ s → sheetFrames text ≡ asFrom 0 0 (linesOf text .whole) (linesOf text .tail) s → TakenAs text n bytes
     by-sheet (taken fs) g f =
-        let r : Read.Is n bytes ≡ readAs (frames (map frameOf fs)) = e ∙ ap readAs f in
+        let r : Gathered.Is n bytes ≡ readAs (frames (map frameOf fs)) = e ∙ ap readAs f in
         record {
           forms = fs;
           sheet = g;
-          count = ap countIn r ∙ length-map fs frameOf;
-          size = ap bytesIn r;
+          count = cc (length-map fs frameOf);
+          size = cc;
           read = frames-read (linesOf text .whole) 0 0 first (linesOf text .tail) (map frameOf fs) f;
         }
-    by-sheet (refused number line) g f = let r : Read.Is n bytes ≡ Read.Refused _ = e ∙ ap readAs f in let z : _≡_ {A = ℕ} 0 1 = cc in absurd (omega arith)
+    by-sheet (refused number line) g f = let r : Gathered.Is n bytes ≡ Gathered.Refused _ = e ∙ ap readAs f in let z : _≡_ {A = ℕ} 0 1 = cc in absurd (omega arith)
 
 -- ---- the frames that the rows hold are those that were stored
 rows-back : (fs : List Frame) → map frameIn (map rowOf fs) ≡ fs
@@ -137,8 +121,14 @@ rows-places rows₀ rows fs e h = ap length e ∙ length-sets rows₀ 0 (map row
 pub put-front : (buffer p : List ℕ) → length p ≤ length buffer → putAt buffer 0 p ≡ p ++ drop (length p) buffer
 put-front buffer p h = let z : 0 + length p ≡ length p = omega arith in put-inside buffer 0 p (omega arith) ∙ rw z refl
 
+-- the plan of the first n rows fits, and is what compiling answers and leaves
+pub record Made (text buffer : List ℕ) (rows : List (List ℕ)) (n size : ℕ) : Type 0 where
+  pub fits : length (planText (framesIn rows n ++ (Frame.End n ∷ []))) ≤ length buffer
+  pub answer : Answer.Plan size ≡ compiledAs (compile text (length buffer))
+  pub left : putAt buffer 0 (planText (framesIn rows n ++ (Frame.End n ∷ []))) ≡ leftIn buffer (compile text (length buffer))
+
 -- ---- a sheet that was read with n frames
-module _ (text buffer : List ℕ) (l : tooLong text ≡ false) (n bytes end : ℕ) (e : Read.Is n bytes ≡ readAs (framed text)) (g : end ≡ length (wholeLine (Frame.End n))) where
+module _ (text buffer : List ℕ) (l : tooLong text ≡ false) (n bytes end : ℕ) (e : Gathered.Is n bytes ≡ readAs (sheetFrames text)) (g : end ≡ length (wholeLine (Frame.End n))) where
   t : TakenAs text n bytes
   t = sheet-taken text l n bytes e
 
@@ -159,11 +149,11 @@ module _ (text buffer : List ℕ) (l : tooLong text ≡ false) (n bytes end : �
         let f : framesIn rows n ≡ map frameOf (t .forms) = frames-kept rows₀ rows (map frameOf (t .forms)) n (stored ∙ ap (λ (fs : List Frame). sets rows₀ 0 (map rowOf fs)) (t .read)) k (omega (arith, places)) in
         ap planText (ap (λ (fs : List Frame). fs ++ (Frame.End n ∷ [])) f ∙ ap (λ (m : ℕ). map frameOf (t .forms) ++ (Frame.End m ∷ [])) (t .count) ∙ sym (compiled-frames (t .forms)))
 
-    pub plan-fits : length (planText (framesIn rows n ++ (Frame.End n ∷ []))) ≤ length buffer
-    plan-fits = omega (arith, ap length kept, size)
-
-    pub plan-answer : (Answer.Plan (bytes + end) ≡ compiledAs (compile text (length buffer)))
-        × (putAt buffer 0 (planText (framesIn rows n ++ (Frame.End n ∷ []))) ≡ leftIn buffer (compile text (length buffer)))
-    plan-answer =
-        rw (compile-fits text (length buffer) (t .forms) (t .sheet) (omega (arith, size)))
-        (ap Answer.Plan size, ap (putAt buffer 0) kept ∙ put-front buffer (compiledText (t .forms)) (omega (arith, size)))
+    pub plan-made : Made text buffer rows n (bytes + end)
+    plan-made =
+        let c = compile-fits text (length buffer) (t .forms) (t .sheet) (omega (arith, size)) in
+        record {
+          fits = omega (arith, ap length kept, size);
+          answer = rw c (ap Answer.Plan size);
+          left = rw c (ap (putAt buffer 0) kept ∙ put-front buffer (compiledText (t .forms)) (omega (arith, size)));
+        }

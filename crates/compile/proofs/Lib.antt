@@ -5,3 +5,4 @@ pub mod Rounds
 pub mod Written
 pub mod Framing
 pub mod Compiling
+pub mod Refusing

@@ -54,20 +54,10 @@ pub record SteppedIs (s : State) (x : Lined) (next : State) : Type 0 where
   pub is : x ≡ Lined.Is frame
   pub same : next ≡ record { context = nextContext (s .context) frame; lines = s .lines + 1; frames = s .frames + 1; bytes = s .bytes + length (wholeLine frame) }
 
-stateIn : State → Stepped → State
-stateIn s (Stepped.Is t) = t
-stateIn s (Stepped.Refused number) = s
-
-numberIn : Stepped → ℕ
-numberIn (Stepped.Is t) = 0
-numberIn (Stepped.Refused number) = number
-
 pub step-is : (s : State) (x : Lined) (next : State) → stepped s x ≡ Stepped.Is next → SteppedIs s x next
-unfolding stateIn
-step-is s (Lined.Is f) next e = record { frame = f; is = refl; same = sym (ap (stateIn s) e) }
+step-is s (Lined.Is f) next e = record { frame = f; is = refl; same = cc }
 step-is s (Lined.Refused number) next e = let z : _≡_ {A = ℕ} 0 1 = cc in absurd (omega arith)
 
 pub step-refused : (s : State) (x : Lined) (number : ℕ) → stepped s x ≡ Stepped.Refused number → x ≡ Lined.Refused number
-unfolding numberIn
 step-refused s (Lined.Is f) number e = let z : _≡_ {A = ℕ} 0 1 = cc in absurd (omega arith)
-step-refused s (Lined.Refused n) number e = ap (λ (t : Stepped). Lined.Refused (numberIn t)) e
+step-refused s (Lined.Refused n) number e = cc

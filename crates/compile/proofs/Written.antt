@@ -1,6 +1,6 @@
 -- Frames written one after the other.
 use mathlib.Core.Bool.{true}
-use mathlib.Core.List.{List, [], _∷_, _++_, map, append-assoc}
+use mathlib.Core.List.{List, [], _∷_, _++_, map}
 use mathlib.Core.Path.{_≡_, refl, sym, ap, _∙_}
 use Prim.Native.Nat.{ℕ, suc, _+_, _-_, _<_, _≤_}
 use native.Mathlib.Omega.{arith}
@@ -9,9 +9,9 @@ use lib.ListN.{length, getD, take, drop, length-append}
 use lib.Seq.{take-suc, take-add}
 use Rattle.hex.proofs.Puts.{put-nothing, length-put, put-then}
 use Rattle.hex.specs.Hex.{putAt, pastPut}
-use Rattle.plan.proofs.Placing.{text-snoc}
+use Rattle.plan.proofs.Placing.{text-append, text-snoc}
 use Rattle.plan.specs.Rows.{frameIn}
-use Rattle.plan.specs.Text.{frameLine, wholeLine, planText}
+use Rattle.plan.specs.Text.{wholeLine, planText}
 use Rattle.plan.specs.declared.Frame.{Frame}
 use Rattle.compile.specs.Answers.{framesIn}
 
@@ -28,11 +28,6 @@ module _ (plan : List ℕ) (fs : List Frame) (f : Frame) (room : length (planTex
   next-put =
       let z : 0 + length (planText fs) ≡ length (planText fs) = omega arith in
       rw z at (put-then plan 0 (planText fs) (wholeLine f) (omega (arith, long))) ∙ ap (putAt plan 0) (sym (text-snoc fs f))
-
-text-append : (fs gs : List Frame) → planText (fs ++ gs) ≡ planText fs ++ planText gs
-unfolding planText
-text-append [] gs = refl
-text-append (f ∷ fs) gs = rw (text-append fs gs) (sym (append-assoc (frameLine f) (10 ∷ planText fs) (planText gs)))
 
 map-append : (l m : List (List ℕ)) → map frameIn (l ++ m) ≡ map frameIn l ++ map frameIn m
 map-append [] m = refl

@@ -11,14 +11,13 @@ use Rattle.plan.specs.declared.Frame.{Frame}
 use Rattle.sheet.specs.Form.{Form}
 use Rattle.sheet.specs.Refusals.{taken, refused, readSheet, badAt, badLength}
 
-framesOf : ℕ → List Form → List Frame
-framesOf n [] = Frame.End n ∷ []
-framesOf n (f ∷ fs) = frameOf f ∷ framesOf (suc n) fs
+-- the frames of some lines after n others, then "FF: number of frames before it"
+abbrev pub framesAfter : ℕ → List Form → List Frame
+framesAfter n [] = Frame.End n ∷ []
+framesAfter n (f ∷ fs) = frameOf f ∷ framesAfter (suc n) fs
 
--- the frames of a sheet's lines, then "FF: number of frames before it"
 unfoldable pub compiledFrames : List Form → List Frame
-unfolding framesOf
-compiledFrames fs = framesOf 0 fs
+compiledFrames fs = framesAfter 0 fs
 
 unfoldable pub compiledText : List Form → List ℕ
 compiledText fs = planText (compiledFrames fs)

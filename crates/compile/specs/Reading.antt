@@ -14,32 +14,32 @@ use Rattle.plan.specs.declared.Frame.{Frame}
 use Rattle.compile.specs.Steps.{nextContext}
 use Rattle.compile.specs.declared.Compiled.{Compiled}
 use Rattle.compile.specs.declared.Refusal.{Refusal}
-use Rattle.compile.specs.declared.reading.Sheet.{Sheet}
+use Rattle.compile.specs.declared.reading.Gathered.{Gathered}
 use Rattle.compile.specs.declared.step.Stepped.{Stepped}
 
 -- a sheet's frames, or a refusal number with the number of a line and the line's place and length
-pub data Framed : Type 0 where
-  frames : List Frame → Framed
-  refused : ℕ → ℕ → ℕ → ℕ → Framed
+pub data SheetFrames : Type 0 where
+  frames : List Frame → SheetFrames
+  refused : ℕ → ℕ → ℕ → ℕ → SheetFrames
 
-abbrev pub following : Frame → Framed → Framed
+abbrev pub following : Frame → SheetFrames → SheetFrames
 following f (frames fs) = frames (f ∷ fs)
 following f (refused number line at size) = refused number line at size
 
 -- "the first bad line decides": n lines are good, and the next one begins at a place
-unfoldable pub framedFrom : ℕ → ℕ → Context → List (List ℕ) → List ℕ → Framed
-framedFrom n at c [] tail = cond (ltb 0 (length tail)) (refused 2 (n + 1) at (length tail)) (cond (eqb n 0) (refused 4 1 0 0) (frames []))
-framedFrom n at c (line ∷ more) tail =
+unfoldable pub sheetFramesFrom : ℕ → ℕ → Context → List (List ℕ) → List ℕ → SheetFrames
+sheetFramesFrom n at c [] tail = cond (ltb 0 (length tail)) (refused 2 (n + 1) at (length tail)) (cond (eqb n 0) (refused 4 1 0 0) (frames []))
+sheetFramesFrom n at c (line ∷ more) tail =
     elim (lined (contextAs c) line) [
-      | Lined.Is f ↦ following f (framedFrom (n + 1) (at + length line + 1) (nextContext c f) more tail)
+      | Lined.Is f ↦ following f (sheetFramesFrom (n + 1) (at + length line + 1) (nextContext c f) more tail)
       | Lined.Refused number ↦ refused number (n + 1) at (length line)
     ]
 
 abbrev pub first : Context
 first = record { before = Before.Start; low = 0; offset = 0 }
 
-unfoldable pub framed : List ℕ → Framed
-framed text = let r = linesOf text in framedFrom 0 0 first (r .whole) (r .tail)
+unfoldable pub sheetFrames : List ℕ → SheetFrames
+sheetFrames text = let r = linesOf text in sheetFramesFrom 0 0 first (r .whole) (r .tail)
 
 -- the frames of the lines before the first bad one
 unfoldable pub framesFrom : Context → List (List ℕ) → List Frame
@@ -53,22 +53,22 @@ framesRead text = framesFrom first (linesOf text .whole)
 abbrev pub refusalAs : ℕ → ℕ → ℕ → ℕ → Refusal
 refusalAs number line at size = record { number = number; line = line; at = at; length = size }
 
-abbrev pub readAs : Framed → Sheet
-readAs (frames fs) = Sheet.Is (length fs) (length (planText fs))
-readAs (refused number line at size) = Sheet.Refused (refusalAs number line at size)
+abbrev pub readAs : SheetFrames → Gathered
+readAs (frames fs) = Gathered.Is (length fs) (length (planText fs))
+readAs (refused number line at size) = Gathered.Refused (refusalAs number line at size)
 
-abbrev pub badAs : Stepped → ℕ → ℕ → ℕ → Sheet
-badAs (Stepped.Is s) line at size = Sheet.Refused (refusalAs 0 line at size)
-badAs (Stepped.Refused number) line at size = Sheet.Refused (refusalAs number line at size)
+abbrev pub badAs : Stepped → ℕ → ℕ → ℕ → Gathered
+badAs (Stepped.Is s) line at size = Gathered.Refused (refusalAs 0 line at size)
+badAs (Stepped.Refused number) line at size = Gathered.Refused (refusalAs number line at size)
 
-abbrev pub lastAs : ℕ → ℕ → ℕ → Sheet
-lastAs lines n bytes = cond (eqb lines 0) (Sheet.Refused (refusalAs 4 1 0 0)) (Sheet.Is n bytes)
+abbrev pub lastAs : ℕ → ℕ → ℕ → Gathered
+lastAs lines n bytes = cond (eqb lines 0) (Gathered.Refused (refusalAs 4 1 0 0)) (Gathered.Is n bytes)
 
-abbrev pub answered : Sheet → Compiled
-answered (Sheet.Is n bytes) = Compiled.Plan bytes
-answered (Sheet.Refused r) = Compiled.Refused r
+abbrev pub answered : Gathered → Compiled
+answered (Gathered.Is n bytes) = Compiled.Plan bytes
+answered (Gathered.Refused r) = Compiled.Refused r
 
 -- at most 64 frames, of at most 79 bytes each
-abbrev pub small : Sheet → Bool
-small (Sheet.Is n bytes) = leb n 64 && leb bytes 5056
-small (Sheet.Refused r) = true
+abbrev pub small : Gathered → Bool
+small (Gathered.Is n bytes) = leb n 64 && leb bytes 5056
+small (Gathered.Refused r) = true

@@ -33,12 +33,13 @@ nextContext c (Frame.Extra m) = linesAfter c
 nextContext c (Frame.Excepted m) = linesAfter c
 nextContext c (Frame.End n) = linesAfter c
 
--- a transition that may stand there, of the window
+-- whether one more transition can be counted there; elsewhere than after the zone none stands
 abbrev pub roomFor : Before → Bool
 roomFor Before.Start = true
 roomFor (Before.Zoned k) = ltb k mostChanges
 roomFor Before.Lines = true
 
+-- what a frame of a line that is taken keeps: a transition has room, and is of the window
 abbrev pub frameFits : Context → Frame → Bool
 frameFits c (Frame.Offset o) = true
 frameFits c (Frame.Change t) = roomFor (c .before) && leb (t .at) (bias + windowLast)

@@ -7,7 +7,7 @@ ghost use Rattle.sheet.specs.Refusals.{tooLong as tooLongOf};
 use frames::places::fresh_rows;
 use plan::Frame;
 use plan::text;
-use reading::Sheet;
+use reading::Gathered;
 
 mod reading;
 mod step;
@@ -68,7 +68,7 @@ pub fn compile(sheet: &[u8], plan: &mut [u8]) -> Compiled
     }
     let mut rows = fresh_rows();
     let read = reading::read(sheet, &mut rows);
-    let Sheet::Is(frames, bytes) = read else {
+    let Gathered::Is(frames, bytes) = read else {
         return reading::refused(read);
     };
     let size = bytes + text::length_of(Frame::End(frames as u64));

@@ -7,7 +7,7 @@ ghost use lib.ListN.{length};
 ghost use lib.Seq.{sets};
 ghost use Rattle.lines.specs.Lines.{linesIn};
 ghost use Rattle.plan.specs.Rows.{rowOf};
-ghost use Rattle.compile.specs.Reading.{framed, framesRead, readAs, lastAs, badAs, answered, small};
+ghost use Rattle.compile.specs.Reading.{sheetFrames, framesRead, readAs, lastAs, badAs, answered, small};
 use crate::Compiled;
 use crate::Refusal;
 use crate::step::Stepped;
@@ -21,26 +21,26 @@ const NO_END: u64 = 2;
 const EMPTY: u64 = 4;
 
 // The number of frames and the bytes of their plan lines, or the first bad line.
-pub(crate) enum Sheet {
+pub(crate) enum Gathered {
     Is(usize, usize),
     Refused(Refusal),
 }
 
-// The answer of a sheet that is not taken.
-pub(crate) fn refused(read: Sheet) -> Compiled
+// The answer of a sheet that is not taken; a taken one does not come here.
+pub(crate) fn refused(read: Gathered) -> Compiled
     ensures { λ r. ⌜ r ≡ answered read ⌝ }
 {
     match read {
-        Sheet::Is(_, bytes) => Compiled::Plan(bytes),
-        Sheet::Refused(refusal) => Compiled::Refused(refusal),
+        Gathered::Is(_, bytes) => Compiled::Plan(bytes),
+        Gathered::Refused(refusal) => Compiled::Refused(refusal),
     }
 }
 
 // A bad line.
-fn bad(number: u64, line: usize, at: usize, length: usize) -> Sheet
-    ensures { λ r. ⌜ r ≡ Sheet.Refused (record { number = number; line = line; at = at; length = length }) ⌝ }
+fn bad(number: u64, line: usize, at: usize, length: usize) -> Gathered
+    ensures { λ r. ⌜ r ≡ Gathered.Refused (record { number = number; line = line; at = at; length = length }) ⌝ }
 {
-    Sheet::Refused(Refusal {
+    Gathered::Refused(Refusal {
         number,
         line,
         at,
@@ -48,7 +48,8 @@ fn bad(number: u64, line: usize, at: usize, length: usize) -> Sheet
     })
 }
 
-fn bad_step(x: Stepped, line: usize, at: usize, length: usize) -> Sheet
+// A line that its step refused; one that it took does not come here.
+fn bad_step(x: Stepped, line: usize, at: usize, length: usize) -> Gathered
     ensures { λ r. ⌜ r ≡ badAs x line at length ⌝ }
 {
     match x {
@@ -58,19 +59,19 @@ fn bad_step(x: Stepped, line: usize, at: usize, length: usize) -> Sheet
 }
 
 // After the last line: "an empty sheet (line 1)".
-fn ended(lines: usize, frames: usize, bytes: usize) -> Sheet
+fn ended(lines: usize, frames: usize, bytes: usize) -> Gathered
     ensures { λ r. ⌜ r ≡ lastAs lines frames bytes ⌝ }
 {
     if lines == 0 {
         return bad(EMPTY, 1, 0, 0);
     }
-    Sheet::Is(frames, bytes)
+    Gathered::Is(frames, bytes)
 }
 
 // "The first bad line decides": the frames of the lines before it stand in the first rows.
-pub(crate) fn read(sheet: &[u8], rows: &mut Rows) -> Sheet
+pub(crate) fn read(sheet: &[u8], rows: &mut Rows) -> Gathered
     requires { ⌜ linesIn (now sheet) ≤ 64 ⌝ }
-    ensures answer { λ r. ⌜ r ≡ readAs (framed (now (sheet .entry))) ⌝ }
+    ensures answer { λ r. ⌜ r ≡ readAs (sheetFrames (now (sheet .entry))) ⌝ }
     ensures rows { λ _. ⌜ now (rows .exit) ≡ sets (now (rows .entry)) 0 (map rowOf (framesRead (now (sheet .entry)))) ⌝ }
     ensures small { λ r. ⌜ small r ≡ true ⌝ }
 {

@@ -98,7 +98,7 @@ fn context_after(c: Context, frame: Frame) -> Context
     }
 }
 
-// A line that is not taken.
+// A line that is not taken; a taken one does not come here.
 fn refused(x: Lined) -> Stepped
     ensures { λ r. ⌜ r ≡ refusedAs x ⌝ }
 {

@@ -5,8 +5,8 @@ use Prim.Native.Nat.{ℕ, zero, suc, _+_, _-_, _<_, _≤_}
 use native.Mathlib.Omega.{arith}
 use borrow.Author.Tests.{eq-eqb, ne-eqb, eqb-true, eqb-false}
 use lib.Dec.{eqb}
+use Rattle.calendar.proofs.Every.{decided}
 use Rattle.calendar.specs.Below.{countFrom, leastFrom}
-use Rattle.masks.proofs.Bits.{decided}
 use Rattle.days.specs.Search.{nthFrom}
 
 module _ (test : ℕ → Bool) where

@@ -18,6 +18,7 @@ use Rattle.sheet.specs.Refusals.{Context, contextAfter, taken, readSheet}
 use Rattle.compile.proofs.Compiling.{compiled-frames}
 use Rattle.demands.proofs.FrameGoods.{line-frame-good, frame-not-end}
 use Rattle.demands.proofs.Read.{Line, Lines, first, TakenSheet, taken-sheet}
+use Rattle.demands.proofs.Sources.{Source}
 use Rattle.demands.proofs.Standing.{standing, frame-placed}
 
 number-good : (n : ℕ) (f : Form) → n < 64 → numberGood n (frameOf f) ≡ true
@@ -77,3 +78,6 @@ pub compiled-taken : (text : List ℕ) (fs : List Form) → readSheet text ≡ t
 unfolding compiledText
 compiled-taken text fs e =
     rw (compiled-frames fs, ← length-map fs frameOf) (written-plan (map frameOf fs) (frames-allowed fs (taken-sheet text fs e)))
+
+pub plan-taken : (text p : List ℕ) (s : Source text p) → load p ≡ takenFrames (map frameOf (s .forms))
+plan-taken text p s = ap load (s .written) ∙ compiled-taken text (s .forms) (s .sheet)

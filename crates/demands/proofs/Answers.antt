@@ -1,7 +1,7 @@
 -- What a plan answers is what the text that it was compiled from means.
 use mathlib.Core.Bool.{Bool}
 use mathlib.Core.List.{List, map}
-use mathlib.Core.Path.{_≡_, ap, subst, _∙_}
+use mathlib.Core.Path.{_≡_, subst}
 use Prim.Native.Nat.{ℕ}
 use lib.IntN.{ℤ}
 use Rattle.evandrusk.specs.Plans.{SignedInstant, NearestFound, NearestBy}
@@ -12,7 +12,7 @@ use Rattle.plan.specs.Taken.{taken, load}
 use Rattle.sheet.specs.Form.{Form}
 use Rattle.sheet.specs.Meaning.{SheetInstant}
 use Rattle.demands.specs.Meant.{MeantInstant}
-use Rattle.demands.proofs.Allowed.{compiled-taken}
+use Rattle.demands.proofs.Allowed.{plan-taken}
 use Rattle.demands.proofs.Sources.{Source}
 use Rattle.demands.proofs.Instants.{plan-of-sheet, sheet-of-plan}
 
@@ -46,15 +46,12 @@ module _ (text p : List ℕ) (source : Source text p) where
         becomes = m .becomes;
       }
 
-  loads : load p ≡ taken (map frameOf fs)
-  loads = ap load (source .written) ∙ compiled-taken text fs (source .sheet)
-
   -- either direction of time
   module _ (before : ℤ → ℤ → Bool) (asked : ℤ) (r : EvkFound) where
     pub answer-means : NearestBy before (load p) asked r → NearestFound before (MeantInstant text) asked r
     unfolding NearestBy
-    answer-means a = nearest-same before (SignedInstant (map frameOf fs)) (MeantInstant text) asked r text-means plan-means (rw loads at a)
+    answer-means a = nearest-same before (SignedInstant (map frameOf fs)) (MeantInstant text) asked r text-means plan-means (rw (plan-taken text p source) at a)
 
     pub meant-answer : NearestFound before (MeantInstant text) asked r → NearestBy before (load p) asked r
     unfolding NearestBy
-    meant-answer n = rw loads (nearest-same before (MeantInstant text) (SignedInstant (map frameOf fs)) asked r plan-means text-means n)
+    meant-answer n = rw (plan-taken text p source) (nearest-same before (MeantInstant text) (SignedInstant (map frameOf fs)) asked r plan-means text-means n)

@@ -4,9 +4,9 @@ use mathlib.Core.List.{List, [], _∷_}
 use mathlib.Core.Path.{_≡_, refl}
 use Prim.Native.Nat.{ℕ, _+_, _≤_}
 use native.Mathlib.Omega.{arith}
-use borrow.Author.Tests.{leb-true, le-leb, eq-eqb}
+use borrow.Author.Tests.{le-leb, eq-eqb}
 use lib.Dec.{leb, ltb, eqb}
-use Rattle.calendar.proofs.Every.{both-true}
+use Rattle.calendar.proofs.Every.{both-true, both, within-range}
 use Rattle.calendar.specs.Below.{within, allOf}
 use Rattle.framed.proofs.Goods.{fieldWritten, written}
 use Rattle.framed.specs.Framed.{cronFrame}
@@ -15,7 +15,7 @@ use Rattle.plan.specs.Taken.{fullMask, maskGood, cronGood}
 use Rattle.sheet.specs.Form.{Element, one, range, Field, star, list, cron}
 use Rattle.sheet.specs.Meaning.{elementHas, fieldHas, restricted}
 use Rattle.sheet.specs.Range.{elementInRange, fieldInRange, inRange}
-use Rattle.demands.proofs.MaskGoods.{both, mask-good}
+use Rattle.demands.proofs.MaskGoods.{mask-good}
 
 module _ (low high : ℕ) where
   -- a number that a field holds
@@ -28,13 +28,13 @@ module _ (low high : ℕ) where
   first-held : (x : Element) (es : List Element) → elementInRange low high x ≡ true → Held (list (x ∷ es))
   unfolding elementInRange fieldHas elementHas
   first-held (one n) es r =
-      let p = both-true (leb low n) (leb n high) r in
-      record { number = n; from = leb-true low n (p .0); upto = leb-true n high (p .1); has = rw (eq-eqb n n refl) refl }
+      let p = within-range low high n r in
+      record { number = n; from = p .0; upto = p .1; has = rw (eq-eqb n n refl) refl }
   first-held (range a b) es r =
       let p = both-true (within low high a) (within low high b && leb a b) r in
-      let q = both-true (leb low a) (leb a high) (p .0) in
+      let q = within-range low high a (p .0) in
       let o = both-true (within low high b) (leb a b) (p .1) .1 in
-      record { number = a; from = leb-true low a (q .0); upto = leb-true a high (q .1); has = rw (le-leb a a (omega arith), o) refl }
+      record { number = a; from = q .0; upto = q .1; has = rw (le-leb a a (omega arith), o) refl }
 
   held : (f : Field) → low ≤ high → fieldWritten f ≡ true → fieldInRange low high f ≡ true → Held f
   unfolding fieldInRange fieldHas

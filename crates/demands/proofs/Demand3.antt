@@ -3,13 +3,18 @@ use mathlib.Core.List.{List}
 use mathlib.Core.Path.{_≡_}
 use Prim.Native.Nat.{ℕ}
 use lib.IntN.{ℤ}
+use lib.ListN.{length, take}
 use lib.Signed.{ltZ}
+use Rattle.compile.specs.Answers.{leftIn}
 use Rattle.compile.specs.Compiled.{plan, compile}
 use Rattle.evandrusk.proofs.Nearests.{next-answer-unique, previous-answer-unique}
 use Rattle.evandrusk.specs.Plans.{NearestFound, NextAnswer, PreviousAnswer, later}
+use Rattle.evandrusk.specs.Sheets.{compileAnswer}
+use Rattle.evandrusk.specs.declared.answers.EvkCompiled.{EvkCompiled}
 use Rattle.evandrusk.specs.declared.answers.EvkFound.{EvkFound}
 use Rattle.demands.specs.Meant.{MeantInstant}
 use Rattle.demands.proofs.Answers.{answer-means, meant-answer}
+use Rattle.demands.proofs.Plans.{compiled-bytes}
 use Rattle.demands.proofs.Sources.{plan-source}
 
 module _ (text : List ℕ) (room : ℕ) (p : List ℕ) (compiled : compile text room ≡ plan p) (asked : ℤ) (r : EvkFound) where
@@ -39,3 +44,12 @@ module _ (text : List ℕ) (room : ℕ) (p : List ℕ) (compiled : compile text 
   pub previous-meant-unique : NearestFound later (MeantInstant text) asked r → NearestFound later (MeantInstant text) asked s → r ≡ s
   previous-meant-unique a b =
       previous-answer-unique p asked r s (previous-meant text room p compiled asked r a) (previous-meant text room p compiled asked s b)
+
+-- of what C holds: where `evk_compile` answers `made` with 0 and leaves the buffer as `left`, its first bytes, `made .length` of them, are such a plan
+module _ (text buffer left : List ℕ) (made : EvkCompiled) (answer : made ≡ compileAnswer (compile text (length buffer)))
+    (kept : left ≡ leftIn buffer (compile text (length buffer))) (taken : made .number ≡ 0) (asked : ℤ) (r : EvkFound) where
+  pub next-of-compiled : NextAnswer (take (made .length) left) asked r → NearestFound ltZ (MeantInstant text) asked r
+  next-of-compiled = next-means text (length buffer) (take (made .length) left) (compiled-bytes text buffer left made answer kept taken) asked r
+
+  pub previous-of-compiled : PreviousAnswer (take (made .length) left) asked r → NearestFound later (MeantInstant text) asked r
+  previous-of-compiled = previous-means text (length buffer) (take (made .length) left) (compiled-bytes text buffer left made answer kept taken) asked r

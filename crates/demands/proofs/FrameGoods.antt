@@ -3,11 +3,11 @@ use mathlib.Core.Bool.{Bool, true, false, cond}
 use mathlib.Core.List.{List}
 use mathlib.Core.Option.{some}
 use mathlib.Core.Path.{_≡_, refl}
-use Prim.Native.Nat.{ℕ, _+_, _-_, _≤_}
+use Prim.Native.Nat.{ℕ, _+_, _-_}
 use native.Mathlib.Omega.{arith}
-use borrow.Author.Tests.{lt-ltb, le-leb, leb-true}
+use borrow.Author.Tests.{lt-ltb, leb-true}
 use lib.Dec.{leb}
-use Rattle.calendar.proofs.Every.{both-true}
+use Rattle.calendar.proofs.Every.{both-true, both, within-range, range-within}
 use Rattle.calendar.specs.Below.{within}
 use Rattle.calendar.specs.Window.{windowMinutes, windowLast}
 use Rattle.framed.proofs.Forms.{form-written}
@@ -21,16 +21,12 @@ use Rattle.sheet.specs.Range.{timeInRange, minuteOf, instantOfTime, shiftMinute
 use Rattle.sheet.specs.Refusals.{Context, formRefusal}
 use Rattle.zone.specs.Zone.{bias, offsetInRange, leastOffset, greatestOffset, inWindow}
 use Rattle.demands.proofs.CronGoods.{cron-good}
-use Rattle.demands.proofs.MaskGoods.{both}
 use Rattle.demands.proofs.RuleGoods.{rule-frame-good}
-
-inside : (low high n : ℕ) → low ≤ n → n ≤ high → within low high n ≡ true
-inside low high n l h = both (le-leb low n l) (le-leb n high h)
 
 shift-good : (minus : Bool) (n : ℕ) → cond minus (within 1 720 n) (leb n 840) ≡ true → offsetInRange (cond minus (bias - n) (bias + n)) ≡ true
 shift-good true n e =
-    let h = leb-true n 720 (both-true (leb 1 n) (leb n 720) e .1) in inside leastOffset greatestOffset (bias - n) (omega arith) (omega arith)
-shift-good false n e = let h = leb-true n 840 e in inside leastOffset greatestOffset (bias + n) (omega arith) (omega arith)
+    let h = within-range 1 720 n e .1 in range-within leastOffset greatestOffset (bias - n) (omega arith) (omega arith)
+shift-good false n e = let h = leb-true n 840 e in range-within leastOffset greatestOffset (bias + n) (omega arith) (omega arith)
 
 offset-good : (s : Shift) → shiftInRange s ≡ true → offsetInRange (offsetOfShift s) ≡ true
 unfolding shiftInRange offsetOfShift
@@ -38,12 +34,12 @@ offset-good s e = shift-good (s .minus) (shiftMinutes s) (both-true (leb (s .min
 
 instant-good : (t : Time) → timeInRange t ≡ true → within bias (bias + windowLast) (instantOfTime t) ≡ true
 unfolding instantOfTime
-instant-good t e = let h = minute-in-window t e in inside bias (bias + windowLast) (minuteOf t + bias) (omega arith) (omega arith)
+instant-good t e = let h = minute-in-window t e in range-within bias (bias + windowLast) (minuteOf t + bias) (omega arith) (omega arith)
 
 minute-good : (t : Time) → timeInRange t ≡ true → inWindow (minuteOf t) ≡ true
 minute-good t e = lt-ltb (minuteOf t) windowMinutes (minute-in-window t e)
 
-pub frame-good : (c : Context) (f : Form) → formRefusal c f ≡ 0 → written f ≡ true → frameGood (frameOf f) ≡ true
+frame-good : (c : Context) (f : Form) → formRefusal c f ≡ 0 → written f ≡ true → frameGood (frameOf f) ≡ true
 unfolding frameGood frameOf inRange
 frame-good c (zone s) e w = offset-good s (taken c (zone s) e .range)
 frame-good c (change t s) e w =

@@ -5,16 +5,15 @@ use mathlib.Core.Option.{Option, none, some}
 use mathlib.Core.Path.{_≡_, refl, sym, ap, _∙_}
 use Prim.Native.Nat.{ℕ, _^_}
 use native.Mathlib.Omega.{arith}
-use borrow.Author.Tests.{ne-eqb}
 use lib.Dec.{ltb, eqb}
-use lib.Pow.{pow-pos}
+use Rattle.calendar.proofs.Every.{both, neither}
 use Rattle.calendar.specs.Below.{anyOf}
 use Rattle.calendar.specs.Window.{localDate, localWeekday}
 use Rattle.framed.proofs.Ends.{ends-limit}
 use Rattle.framed.proofs.Goods.{Good, givenPasses}
 use Rattle.framed.proofs.Listed.{listed}
 use Rattle.framed.proofs.Ordinals.{ordinalEnds, entryGood, entries-limit}
-use Rattle.framed.proofs.Sets.{Framed, ordinalsFor, positionsFor}
+use Rattle.framed.proofs.Sets.{Framed, ordinalsFor, positionsFor, power-limits}
 use Rattle.framed.specs.Framed.{isPlain, isOrdinal as isOrdinalOf, ordinalsOf, weekdaysOf, daysOf}
 use Rattle.frames.specs.Rule.{noLimit}
 use Rattle.frames.specs.declared.Rule.{Rule}
@@ -26,11 +25,7 @@ use Rattle.sheet.specs.Form.{Entry, plain, ordinal, Frequency, daily, weekly, m
 use Rattle.sheet.specs.Parts.{Given, isGiven, isOrdinal, ordinals, clashing}
 use Rattle.sheet.specs.Range.{dayNumberInRange}
 use Rattle.sheet.specs.Words.{Signed}
-use Rattle.demands.proofs.MaskGoods.{both, not-zero}
-
-pub neither : (a b : Bool) → (a || b) ≡ false → (a ≡ false) × (b ≡ false)
-neither true b e = absurd (false≢true (sym e))
-neither false b e = (refl, e)
+use Rattle.demands.proofs.MaskGoods.{not-zero}
 
 -- without an ordinal in the list there is none in the frame
 module _ (minus : Bool) where
@@ -55,13 +50,10 @@ no-positions : (ns : Option (List Signed)) → isGiven ns ≡ false → noLimit 
 no-positions none e = refl
 no-positions (some ns) e = absurd (false≢true (sym e))
 
-power-not-zero : (n : ℕ) → eqb (2 ^ n) 0 ≡ false
-power-not-zero n = ne-eqb (2 ^ n) 0 (λ (e : 2 ^ n ≡ 0). omega (arith, pow-pos n))
-
 -- a weekly rule has a weekday
 weekly-days : (es : Option (List Entry)) (first : ℕ) → givenPasses (listed entryGood) es ≡ true → ordinals es ≡ false → ltb 0 (weekdaysOf weekly es first) ≡ true
 unfolding weekdaysOf
-weekly-days none first l e = not-zero (2 ^ localWeekday first) (power-not-zero (localWeekday first))
+weekly-days none first l e = not-zero (2 ^ localWeekday first) (power-limits (localWeekday first))
 weekly-days (some es) first l e =
     let m : ℕ = maskFrom (λ w. anyOf (isPlain w) es) 7 0 in
     not-zero m (sym (and-true (eqb m 0)) ∙ ap (λ (b : Bool). eqb m 0 && b) (sym (no-ordinals (some es) e)) ∙ entries-limit es l)
@@ -78,7 +70,7 @@ unfolding weekdaysOf daysOf
 monthly-days first (some es) ns l d =
     either-limit (eqb (maskFrom (λ w. anyOf (isPlain w) es) 7 0) 0) (noLimit (daysOf monthly (some es) ns first)) (noLimit (ordinalEnds es)) (entries-limit es l)
 monthly-days first none (some ns) l d = rw (ends-limit ns d) refl
-monthly-days first none none l d = rw (power-not-zero (localDate first .day)) refl
+monthly-days first none none l d = rw (power-limits (localDate first .day)) refl
 
 module _ (g : Given) (first : ℕ) (r : Rule) (good : Good g) where
   pub frequency-good : (f : Frequency) → Framed f g first r → clashing f g ≡ false → frequencyGood r ≡ true

@@ -16,7 +16,7 @@ module _ (text : List ℕ) (fs : List Form) (e : readSheet text ≡ taken fs) (i
   same = held-same fs (taken-sheet text fs e)
 
   moves : (m : ℕ) → instantOf (planZone (map frameOf fs)) m ≡ instantOf (sheetZone fs) m
-  moves m = ap (λ (z : Offsets). instantOf z m) (zone-same fs)
+  moves m = ap (λ (z : Offsets). instantOf z m) (zone-same fs (taken-sheet text fs e))
 
   pub plan-of-sheet : SheetInstant fs i → PlanInstant (map frameOf fs) i
   plan-of-sheet s = record { minute = s .minute; held = same (s .minute) ∙ s .held; becomes = moves (s .minute) ∙ s .becomes }

@@ -5,11 +5,13 @@ pub mod Places
 pub mod Frequencies
 pub mod RuleGoods
 pub mod FrameGoods
-pub mod Sources
 pub mod Read
+pub mod Sources
 pub mod Standing
 pub mod Allowed
+pub mod Plans
 pub mod Held
 pub mod Instants
 pub mod Answers
+pub mod Longest
 pub mod Demand3

@@ -1,20 +1,17 @@
 -- Masks pass the load check: those of a test on the numbers low to high, and a power of two among them.
-use mathlib.Core.Bool.{Bool, true, false, _&&_}
-use mathlib.Core.Path.{_≡_, refl, sym, ap, ap₂, subst, _∙_}
+use mathlib.Core.Bool.{Bool, true, false}
+use mathlib.Core.Path.{_≡_, refl, sym, ap, subst, _∙_}
 use Prim.Native.Nat.{ℕ, _+_, _-_, _%_, _^_, _<_, _≤_, _∣_}
 use native.Mathlib.Nat.{dvd-mul-left, mod-eq-zero-of-dvd}
 use native.Mathlib.Omega.{arith}
 use borrow.Author.Tests.{lt-ltb, eq-eqb, eqb-false}
 use lib.Dec.{ltb, eqb}
 use lib.Pow.{pow-add, pow-lt}
+use Rattle.calendar.proofs.Every.{both}
 use Rattle.framed.proofs.Ends.{bit-not-zero}
 use Rattle.masks.proofs.MaskFroms.{bit-in-mask, mask-from-below, mask-from-divided}
 use Rattle.masks.specs.Masks.{maskFrom}
 use Rattle.plan.specs.Taken.{onlyBits, maskGood}
-
--- two tests that hold
-pub both : {a b : Bool} → a ≡ true → b ≡ true → (a && b) ≡ true
-both e f = ap₂ _&&_ e f
 
 pub not-zero : (m : ℕ) → eqb m 0 ≡ false → ltb 0 m ≡ true
 not-zero m f = let n : m ≡ 0 → ⊥ = eqb-false m 0 f in lt-ltb 0 m (omega arith)

@@ -6,6 +6,7 @@ use mathlib.Core.Path.{_≡_, refl}
 use Prim.Native.Nat.{ℕ, _^_, _<_, _≤_}
 use native.Mathlib.Omega.{arith}
 use borrow.Author.Tests.{lt-ltb}
+use Rattle.calendar.proofs.Every.{both}
 use Rattle.calendar.specs.Below.{anyOf}
 use Rattle.calendar.specs.Window.{localDate, localWeekday, windowDays}
 use Rattle.framed.proofs.Counted.{place-low, place-high}
@@ -22,7 +23,7 @@ use Rattle.plan.specs.Taken.{onlyBits, pairGood, ordinalsGood, placesGood}
 use Rattle.sheet.specs.Form.{Entry, Frequency, daily, weekly, monthly}
 use Rattle.sheet.specs.Parts.{Given}
 use Rattle.sheet.specs.Words.{Signed}
-use Rattle.demands.proofs.MaskGoods.{both, mask-only, power-only}
+use Rattle.demands.proofs.MaskGoods.{mask-only, power-only}
 
 weekdays-only : (f : Frequency) (es : Option (List Entry)) (first : ℕ) → onlyBits 0 6 (weekdaysOf f es first) ≡ true
 unfolding weekdaysOf

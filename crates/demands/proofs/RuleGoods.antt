@@ -1,29 +1,28 @@
 -- The frame of a rule that is taken passes the load check.
-use mathlib.Core.Bool.{Bool, true, false, not, _&&_, false≢true}
+use mathlib.Core.Bool.{Bool, true, false, false≢true}
 use mathlib.Core.List.{List}
 use mathlib.Core.Option.{Option, none, some, Option·getD}
 use mathlib.Core.Path.{_≡_, refl, _∙_}
 use Prim.Native.Nat.{ℕ, _-_, _/_, _<_, _≤_}
 use native.Mathlib.Omega.{arith}
 use borrow.Author.Tests.{lt-ltb, le-ltb, le-leb, leb-true, not-true}
-use Rattle.calendar.proofs.Every.{both-true}
+use Rattle.calendar.proofs.Every.{both-true, both}
 use Rattle.calendar.specs.Below.{within, allOf}
 use Rattle.calendar.specs.Window.{dayMinutes, windowDays, windowMinutes}
 use Rattle.days.proofs.Nths.{nth-lies}
 use Rattle.days.specs.Search.{nthFrom}
 use Rattle.framed.proofs.Days.{frame-framed, rule-occurs}
-use Rattle.framed.proofs.Goods.{givenPasses, Good, written, rule-good}
+use Rattle.framed.proofs.Goods.{givenPasses, Good, written, rule-good, parts-together}
 use Rattle.framed.specs.Framed.{minuteOn, nthLast, lastBy, lastOf, ruleFrame}
 use Rattle.plan.specs.Taken.{ruleGood}
 use Rattle.sheet.proofs.Times.{minute-in-window}
 use Rattle.sheet.specs.Form.{Time, Frequency, daily, Part, rule}
 use Rattle.sheet.specs.Meaning.{occursOn, occursAt, withinUntil}
-use Rattle.sheet.specs.Parts.{Given, givenOf, isGiven, givenTwice, clashing, byFrequency, partsTogether}
+use Rattle.sheet.specs.Parts.{Given, givenOf, clashing, byFrequency, partsTogether}
 use Rattle.sheet.specs.Range.{timeInRange, minuteOf, partInRange, inRange}
 use Rattle.sheet.specs.Refusals.{together, startOccurs}
 use Rattle.zone.proofs.Good.{by-order}
 use Rattle.demands.proofs.Frequencies.{frequency-good}
-use Rattle.demands.proofs.MaskGoods.{both}
 use Rattle.demands.proofs.Places.{places-good}
 
 -- without INTERVAL it is 1
@@ -57,10 +56,7 @@ by-frequency g none e = absurd (false≢true e)
 by-frequency g (some f) e = not-true (clashing f g) e
 
 no-clash : (ps : List Part) → partsTogether ps ≡ true → clashing (Option·getD (givenOf ps .frequency) daily) (givenOf ps) ≡ false
-unfolding partsTogether
-no-clash ps t =
-    let g : Given = givenOf ps in
-    by-frequency g (g .frequency) (both-true (not (isGiven (g .count) && isGiven (g .until))) _ (both-true (not (givenTwice ps)) _ t .1) .1)
+no-clash ps t = by-frequency (givenOf ps) (givenOf ps .frequency) (parts-together ps t .frequency)
 
 module _ (t : Time) (ps : List Part) (inside : inRange (rule t ps) ≡ true) (go : together (rule t ps) ≡ true) (starts : startOccurs (rule t ps) ≡ true) (w : written (rule t ps) ≡ true) where
   abbrev g : Given

@@ -1,1 +1,1 @@
-// What a sheet that is taken demands is met by its plan: nothing to run.
+// Laws alone: demand 3, and that every compiled plan is taken.

@@ -1,25 +1,22 @@
 -- One nearest instant in either direction, and one answer of a plan.
-use mathlib.Core.Bool.{Bool, true, false}
+use mathlib.Core.Bool.{Bool, false}
 use mathlib.Core.List.{List}
-use mathlib.Core.Path.{_≡_, refl, sym, ap, _∙_}
+use mathlib.Core.Path.{_≡_, sym, ap, _∙_}
 use Prim.Native.Nat.{ℕ}
 use lib.IntN.{ℤ}
 use lib.Signed.{ltZ}
+use Rattle.calendar.proofs.Every.{decided}
 use Rattle.plan.specs.Taken.{Loaded, taken, refused, load}
 use Rattle.evandrusk.specs.Plans.{Nearest, NearestFound, NearestBy, NextAnswer, PreviousAnswer, SignedInstant, foundAt, later}
 use Rattle.evandrusk.specs.Plans.NearestFound.{found, none}
 use Rattle.evandrusk.specs.declared.answers.EvkFound.{EvkFound}
 use Rattle.evandrusk.proofs.Orders.{neither-below}
 
-by-test : {A : Type 0} (b : Bool) → (b ≡ true → A) → (b ≡ false → A) → A
-by-test true f g = f refl
-by-test false f g = g refl
-
 module _ (before : ℤ → ℤ → Bool) (total : (a b : ℤ) → before a b ≡ false → before b a ≡ false → a ≡ b) where
   nearest-unique : (instants : ℤ → Type 0) (asked y z : ℤ) → Nearest before instants asked y → Nearest before instants asked z → y ≡ z
   nearest-unique instants asked y z a b =
-      by-test (before y z) (λ t. absurd (b .nearest y (a .is) (a .beyond) t))
-      (λ f. by-test (before z y) (λ t. absurd (a .nearest z (b .is) (b .beyond) t)) (λ g. total y z f g))
+      decided (before y z) (λ t. absurd (b .nearest y (a .is) (a .beyond) t))
+      (λ f. decided (before z y) (λ t. absurd (a .nearest z (b .is) (b .beyond) t)) (λ g. total y z f g))
 
   found-unique : (instants : ℤ → Type 0) (asked : ℤ) (r s : EvkFound)
       → NearestFound before instants asked r → NearestFound before instants asked s → r ≡ s

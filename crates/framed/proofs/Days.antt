@@ -6,11 +6,11 @@ use mathlib.Core.Path.{_≡_, refl, ap, ap₂, _∙_}
 use Prim.Native.Nat.{ℕ, _-_, _/_, _%_, _<_}
 use native.Mathlib.Omega.{arith}
 use lib.Dec.{leb, eqb}
+use Rattle.calendar.proofs.Every.{decided}
 use Rattle.calendar.specs.Window.{dayMinutes, windowDays, windowMinutes}
 use Rattle.frames.specs.Rule.{noLimit, inSet, placed, period, counts, ruleDay, ruleOccurs}
 use Rattle.frames.specs.declared.Ends.{Ends}
 use Rattle.frames.specs.declared.Rule.{Rule}
-use Rattle.masks.proofs.Bits.{decided}
 use Rattle.masks.specs.Masks.{bit}
 use Rattle.sheet.specs.Form.{Time, Part, Frequency, daily, weekly, monthly, rule}
 use Rattle.sheet.specs.Meaning.{allows, daySet, positionHas, periodOf, occursOn, occursAt}

@@ -6,11 +6,11 @@ use Prim.Native.Nat.{ℕ, _≤_}
 use native.Mathlib.Omega.{arith}
 use borrow.Author.Tests.{eq-eqb, eqb-true}
 use lib.Dec.{eqb}
-use Rattle.calendar.proofs.Every.{both-true, within-range}
+use Rattle.calendar.proofs.Every.{both-true, decided, within-range}
 use Rattle.calendar.specs.Below.{anyOf, allOf}
 use Rattle.frames.specs.Rule.{noLimit}
 use Rattle.frames.specs.declared.Ends.{Ends}
-use Rattle.masks.proofs.Bits.{decided, bit-of-zero}
+use Rattle.masks.proofs.Bits.{bit-of-zero}
 use Rattle.masks.proofs.MaskFroms.{bit-in-mask}
 use Rattle.masks.specs.Masks.{bit}
 use Rattle.sheet.specs.Range.{dayNumberInRange}

@@ -6,9 +6,9 @@ use mathlib.Core.Path.{_≡_, refl, sym, ap, _∙_}
 use Prim.Native.Nat.{ℕ, _-_}
 use lib.Dec.{ltb, eqb}
 use lib.ListN.{length, take, drop}
+use Rattle.calendar.proofs.Every.{decided}
 use Rattle.calendar.specs.Below.{allOf}
 use Rattle.lines.specs.Bytes.{bytes, byte}
-use Rattle.masks.proofs.Bits.{decided}
 use Rattle.sheet.specs.Form.{Time, timeOf, Shift, shiftOf, Element, elementOf, Field, star, list, fieldOf, ordinalEntry, weekdayWords, entryOf, Part, interval, count, until, byDay, byMonthDay, bySetPos, frequencyAt, frequencyWords, partWords, partBy, valueOf, named, partOf, Form, zone, extra, except, formBy, changeBy, changeOf, cronOf, ruleBy, ruleOf, tagged, formOf}
 use Rattle.sheet.specs.Words.{sameBytes, wordIn, numberOf, Signed, signedOf, pieces, eachOf}
 use Rattle.framed.proofs.Goods.{givenPasses, weekdayWritten, partWritten, fieldWritten, written}

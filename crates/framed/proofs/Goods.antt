@@ -1,13 +1,14 @@
--- What the laws ask of cron fields and of the parts of a rule: numbers in range, and lists as they can be written.
-use mathlib.Core.Bool.{Bool, true, _&&_}
+-- What the laws ask of cron fields and of the parts of a rule: numbers in range, lists as they can be written, and parts that go together.
+use mathlib.Core.Bool.{Bool, true, false, not, _&&_}
 use mathlib.Core.List.{List, [], _∷_}
 use mathlib.Core.Option.{Option, none, some}
 use mathlib.Core.Path.{_≡_, refl}
+use borrow.Author.Tests.{not-true}
 use lib.Dec.{leb, ltb}
-use Rattle.calendar.proofs.Every.{both-true}
+use Rattle.calendar.proofs.Every.{both-true, both}
 use Rattle.calendar.specs.Below.{within, allOf}
 use Rattle.sheet.specs.Form.{Time, Field, star, list, Entry, Part, freq, interval, count, until, byDay, byMonthDay, bySetPos, Form, zone, change, cron, rule, extra, except}
-use Rattle.sheet.specs.Parts.{Given, givenOf}
+use Rattle.sheet.specs.Parts.{Given, givenOf, isGiven, givenTwice, byFrequency, partsTogether}
 use Rattle.sheet.specs.Range.{entryInRange, dayNumberInRange, timeInRange, partInRange, inRange}
 use Rattle.sheet.specs.Words.{Signed}
 use Rattle.framed.proofs.Listed.{anything, listed, listed-by}
@@ -51,14 +52,11 @@ pub record Good (g : Given) : Type 0 where
   pub monthDays : givenPasses (listed dayNumberInRange) (g .monthDays) ≡ true
   pub positions : givenPasses (listed dayNumberInRange) (g .positions) ≡ true
 
-both : (a b : Bool) → a ≡ true → b ≡ true → (b && a) ≡ true
-both a b e f = rw (e, f) refl
-
 numbers-good : (ns : List Signed) → listed anything ns ≡ true → allOf dayNumberInRange ns ≡ true → listed dayNumberInRange ns ≡ true
 numbers-good ns = listed-by anything dayNumberInRange dayNumberInRange (λ n a b. b) ns
 
 entries-good : (es : List Entry) → listed weekdayWritten es ≡ true → allOf entryInRange es ≡ true → listed entryGood es ≡ true
-entries-good es = listed-by weekdayWritten entryInRange entryGood (λ e. both (weekdayWritten e) (entryInRange e)) es
+entries-good es = listed-by weekdayWritten entryInRange entryGood (λ e w r. both r w) es
 
 with-part : (p : Part) (ps : List Part) → partWritten p ≡ true → partInRange p ≡ true → Good (givenOf ps) → Good (givenOf (p ∷ ps))
 unfolding givenOf partInRange
@@ -81,3 +79,14 @@ given-good (p ∷ ps) w r =
 pub rule-good : (t : Time) (ps : List Part) → written (rule t ps) ≡ true → inRange (rule t ps) ≡ true → Good (givenOf ps)
 unfolding inRange
 rule-good t ps w r = given-good ps w (both-true (timeInRange t) (allOf partInRange ps) r .1)
+
+-- of parts that go together: not COUNT with UNTIL, and a frequency that goes with the others
+pub record Together (ps : List Part) : Type 0 where
+  pub ends : (isGiven (givenOf ps .count) && isGiven (givenOf ps .until)) ≡ false
+  pub frequency : byFrequency (givenOf ps .frequency) (givenOf ps) ≡ true
+
+pub parts-together : (ps : List Part) → partsTogether ps ≡ true → Together ps
+unfolding partsTogether
+parts-together ps e =
+    let p = both-true (not (isGiven (givenOf ps .count) && isGiven (givenOf ps .until))) _ (both-true (not (givenTwice ps)) _ e .1) in
+    record { ends = not-true _ (p .0); frequency = p .1 }

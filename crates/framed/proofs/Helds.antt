@@ -1,27 +1,26 @@
 -- The frame of a rule holds what the rule holds: *last* for COUNT and for UNTIL.
-use mathlib.Core.Bool.{Bool, true, false, not, _&&_, and-true, false≢true}
+use mathlib.Core.Bool.{Bool, true, false, _&&_, and-true, false≢true}
 use mathlib.Core.List.{List}
 use mathlib.Core.Option.{Option, none, some, Option·getD}
 use mathlib.Core.Path.{_≡_, refl, sym, ap, _∙_}
 use Prim.Native.Nat.{ℕ, _+_, _-_, _*_, _/_, _%_, _<_, _≤_}
 use native.Mathlib.Omega.{arith}
-use borrow.Author.Tests.{lt-ltb, le-ltb, le-leb, lt-leb, leb-true, eqb-true, not-true}
+use borrow.Author.Tests.{lt-ltb, le-ltb, le-leb, lt-leb, leb-true, eqb-true}
 use lib.Dec.{leb, eqb}
-use Rattle.calendar.proofs.Every.{both-true}
+use Rattle.calendar.proofs.Every.{both-true, decided}
 use Rattle.calendar.specs.Below.{countFrom}
 use Rattle.calendar.specs.Window.{dayMinutes, windowDays, windowMinutes, windowLast}
 use Rattle.days.specs.Search.{nthFrom}
 use Rattle.frames.specs.Rule.{ruleHeld}
-use Rattle.masks.proofs.Bits.{decided}
 use Rattle.sheet.specs.Form.{Time, Part, Frequency, daily, rule}
 use Rattle.sheet.specs.Meaning.{occursOn, occursAt, withinCount, withinUntil, ruleHolds}
-use Rattle.sheet.specs.Parts.{Given, givenOf, isGiven, givenTwice, partsTogether}
+use Rattle.sheet.specs.Parts.{Given, givenOf, isGiven}
 use Rattle.sheet.specs.Range.{minuteOf, inRange}
 use Rattle.sheet.specs.Refusals.{together}
 use Rattle.zone.proofs.Good.{by-order}
 use Rattle.framed.specs.Framed.{nthLast, lastBy, lastOf, ruleFrame}
 use Rattle.framed.proofs.Days.{rule-occurs}
-use Rattle.framed.proofs.Goods.{givenPasses, written, rule-good}
+use Rattle.framed.proofs.Goods.{givenPasses, written, rule-good, parts-together}
 use Rattle.framed.proofs.Nths.{nth-counted}
 
 module _ (test : ℕ → Bool) (start m : ℕ) (h : m < windowMinutes) (from : start / dayMinutes ≤ m / dayMinutes) (time : m % dayMinutes ≡ start % dayMinutes)
@@ -54,12 +53,12 @@ abbrev frequencyIn : Given → Frequency
 frequencyIn g = Option·getD (g .frequency) daily
 
 -- a minute of an occurrence
-pub record Occurs (g : Given) (start m : ℕ) : Type 0 where
-  pub from : start / dayMinutes ≤ m / dayMinutes
-  pub day : occursOn (frequencyIn g) g (start / dayMinutes) (m / dayMinutes) ≡ true
-  pub time : m % dayMinutes ≡ start % dayMinutes
+record Occurs (g : Given) (start m : ℕ) : Type 0 where
+  from : start / dayMinutes ≤ m / dayMinutes
+  day : occursOn (frequencyIn g) g (start / dayMinutes) (m / dayMinutes) ≡ true
+  time : m % dayMinutes ≡ start % dayMinutes
 
-pub occurs : (g : Given) (start m : ℕ) → occursAt g start m ≡ true → Occurs g start m
+occurs : (g : Given) (start m : ℕ) → occursAt g start m ≡ true → Occurs g start m
 unfolding occursAt occursOn
 occurs g start m t =
     let p = both-true (occursOn (frequencyIn g) g (start / dayMinutes) (m / dayMinutes)) (eqb (m % dayMinutes) (start % dayMinutes)) t in
@@ -79,14 +78,9 @@ module _ (g : Given) (start m : ℕ) where
   unfolding ruleHolds
   holds-not f = rw (f, ruleHolds) refl
 
--- "COUNT with UNTIL" don't go together
-pub one-end : (t : Time) (ps : List Part) → together (rule t ps) ≡ true → (isGiven (givenOf ps .count) && isGiven (givenOf ps .until)) ≡ false
-unfolding together partsTogether
-one-end t ps e = not-true _ (both-true (not (isGiven (givenOf ps .count) && isGiven (givenOf ps .until))) _ (both-true (not (givenTwice ps)) _ e .1) .0)
-
 module _ (t : Time) (ps : List Part) (inside : inRange (rule t ps) ≡ true) (go : together (rule t ps) ≡ true) (w : written (rule t ps) ≡ true) where
   pub rule-held : (m : ℕ) → m < windowMinutes → ruleHeld (ruleFrame (givenOf ps) (minuteOf t)) m ≡ ruleHolds (givenOf ps) (minuteOf t) m
-  unfolding ruleHeld ruleFrame lastOf
+  unfolding ruleHeld ruleFrame lastOf together
   rule-held m h =
       let g : Given = givenOf ps in
       let start : ℕ = minuteOf t in
@@ -95,6 +89,6 @@ module _ (t : Time) (ps : List Part) (inside : inRange (rule t ps) ≡ true) (go
       (λ (o : occursAt g start m ≡ true).
       let a = occurs g start m o in
       ap (λ (b : Bool). b && leb m (ruleFrame g start .last)) (e ∙ o)
-      ∙ last-keeps (occursOn (frequencyIn g) g (start / dayMinutes)) start m h (a .from) (a .time) (a .day) (g .until) (g .count) (one-end t ps go) (rule-good t ps w inside .count)
+      ∙ last-keeps (occursOn (frequencyIn g) g (start / dayMinutes)) start m h (a .from) (a .time) (a .day) (g .until) (g .count) (parts-together ps go .ends) (rule-good t ps w inside .count)
       ∙ sym (holds-where g start m o))
       (λ (n : occursAt g start m ≡ false). ap (λ (b : Bool). b && leb m (ruleFrame g start .last)) (e ∙ n) ∙ sym (holds-not g start m n))

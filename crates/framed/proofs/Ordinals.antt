@@ -7,13 +7,12 @@ use native.Mathlib.Nat.{zero-div}
 use native.Mathlib.Omega.{arith}
 use borrow.Author.Tests.{eq-eqb, eqb-true, ltb-true}
 use lib.Dec.{ltb, eqb}
-use Rattle.calendar.proofs.Every.{both-true, within-range, same-either-way}
+use Rattle.calendar.proofs.Every.{both-true, decided, within-range, same-either-way}
 use Rattle.calendar.specs.Below.{within, anyOf, allOf}
 use Rattle.calendar.specs.Window.{localWeekday, localDate, fromEnd, windowDays}
 use Rattle.frames.proofs.MonthDays.{weekday-at-most}
 use Rattle.frames.specs.Rule.{noLimit, ordinalOf, ordinalMask, ordinalAllowed}
 use Rattle.frames.specs.declared.Ends.{Ends}
-use Rattle.masks.proofs.Bits.{decided}
 use Rattle.masks.proofs.MaskFroms.{bit-in-mask, mask-from-below}
 use Rattle.masks.specs.Masks.{bit, maskFrom}
 use Rattle.sheet.specs.Form.{Entry, plain, ordinal}
@@ -60,11 +59,11 @@ module _ (minus : Bool) (es : List Entry) where
       by-ordinal (suc (suc (suc (suc (suc (suc k)))))) l h m = absurd (omega arith)
 
 -- a weekday of an ordinal is one of the list's
-pub ordinal-bit : (minus : Bool) (es : List Entry) (k w : ℕ) → 1 ≤ k → k ≤ 5 → w < 7 → bit (ordinalMask (ordinalsOf minus es) k) w ≡ anyOf (isOrdinal minus k w) es
+ordinal-bit : (minus : Bool) (es : List Entry) (k w : ℕ) → 1 ≤ k → k ≤ 5 → w < 7 → bit (ordinalMask (ordinalsOf minus es) k) w ≡ anyOf (isOrdinal minus k w) es
 ordinal-bit minus es k w l h b =
     ap (λ (m : ℕ). bit m w) (ordinal-mask minus es k l h) ∙ bit-in-mask (λ v. anyOf (isOrdinal minus k v) es) 7 0 w (omega arith) b
 
-pub plain-bit : (es : List Entry) (w : ℕ) → w < 7 → bit (maskFrom (λ v. anyOf (isPlain v) es) 7 0) w ≡ anyOf (isPlain w) es
+plain-bit : (es : List Entry) (w : ℕ) → w < 7 → bit (maskFrom (λ v. anyOf (isPlain v) es) 7 0) w ≡ anyOf (isPlain w) es
 plain-bit es w b = bit-in-mask (λ v. anyOf (isPlain v) es) 7 0 w (omega arith) b
 
 -- an entry of the list by its masks

@@ -5,8 +5,8 @@ use mathlib.Core.Option.{Option, none, some}
 use mathlib.Core.Path.{_≡_, refl}
 use Prim.Native.Nat.{ℕ}
 use lib.Dec.{eqb}
+use Rattle.calendar.proofs.Every.{decided}
 use Rattle.calendar.specs.Below.{allOf}
-use Rattle.masks.proofs.Bits.{decided}
 use Rattle.sheet.specs.Words.{pieces, consOf, eachOf}
 use Rattle.framed.proofs.Goods.{givenPasses}
 use Rattle.framed.proofs.Listed.{anything, listed}
@@ -25,7 +25,7 @@ all-anything [] = refl
 all-anything (x ∷ xs) = all-anything xs
 
 -- a list of pieces has one at least
-pub some-piece : (separator : ℕ) (s : List ℕ) → listed anything (pieces separator s) ≡ true
+some-piece : (separator : ℕ) (s : List ℕ) → listed anything (pieces separator s) ≡ true
 unfolding pieces
 some-piece separator [] = refl
 some-piece separator (c ∷ cs) =

@@ -42,7 +42,7 @@ pub record Framed (f : Frequency) (g : Given) (first : ℕ) (r : Rule) : Type 0 
   pub ordinals : r .ordinals ≡ ordinalsFor (g .days)
   pub positions : r .positions ≡ positionsFor (g .positions)
 
-power-limits : (x : ℕ) → eqb (2 ^ x) 0 ≡ false
+pub power-limits : (x : ℕ) → eqb (2 ^ x) 0 ≡ false
 power-limits x = bit-not-zero (λ m. m) refl (2 ^ x) x (bit-of-power x x ∙ eq-eqb x x refl)
 
 module _ (first d : ℕ) (h : d < windowDays) where

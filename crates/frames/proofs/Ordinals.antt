@@ -8,9 +8,9 @@ use native.Mathlib.Omega.{arith}
 use borrow.Author.Tests.{lt-ltb, le-ltb, le-leb, lt-leb, eq-eqb, ne-eqb, eqb-true, eqb-false}
 use lib.Dec.{T, leb, ltb, eqb}
 use lib.Pow.{shl-exact}
-use Rattle.calendar.proofs.Every.{regrouped, every}
+use Rattle.calendar.proofs.Every.{decided, regrouped, every}
 use Rattle.calendar.specs.Below.{everyBelow}
-use Rattle.masks.proofs.Bits.{decided, bit-above, bit-of-quotient, bit-of-rest, bit-of-multiple}
+use Rattle.masks.proofs.Bits.{bit-above, bit-of-quotient, bit-of-rest, bit-of-multiple}
 use Rattle.masks.specs.Masks.{bit}
 use Rattle.frames.specs.Months.{ordinalAt}
 use Rattle.frames.specs.Rule.{ordinalMask, ordinalAllowed}

@@ -1,12 +1,12 @@
 -- A line where it stands: when it is allowed, and when not.
-use mathlib.Core.Bool.{Bool, true, false, cond, _&&_, and-false, false≢true}
+use mathlib.Core.Bool.{true, false, cond, _&&_, and-false}
 use mathlib.Core.List.{List}
 use mathlib.Core.Option.{Option, none, some}
 use mathlib.Core.Path.{_≡_, refl, sym, ap, subst, _∙_}
 use Prim.Native.Nat.{ℕ, suc, _+_, _<_, _≤_}
 use native.Mathlib.Omega.{arith}
-use borrow.Author.Tests.{lt-ltb, le-ltb, leb-true}
-use lib.Dec.{leb}
+use borrow.Author.Tests.{lt-ltb, le-ltb}
+use Rattle.calendar.proofs.Every.{both-true, within-range}
 use Rattle.calendar.specs.Below.{within}
 use Rattle.plan.specs.Read.{lineOf, lineRead}
 use Rattle.plan.specs.Taken.{Before, zoned, frameGood, place, numberGood, allowed}
@@ -35,15 +35,7 @@ module _ (k low offset : ℕ) (t : Transition) where
 -- a good transition's instant lies in the window
 pub change-window : (t : Transition) → frameGood (Frame.Change t) ≡ true → t .at ≤ 52597439
 unfolding frameGood
-change-window t g = leb-true (t .at) 52597439 (second (leb 1440 (t .at)) _ (first (within 1440 52597439 (t .at)) _ g))
-  where
-    first : (a b : Bool) → (a && b) ≡ true → a ≡ true
-    first true b e = refl
-    first false b e = absurd (false≢true e)
-
-    second : (a b : Bool) → (a && b) ≡ true → b ≡ true
-    second true b e = e
-    second false b e = absurd (false≢true e)
+change-window t g = within-range 1440 52597439 (t .at) (both-true (within 1440 52597439 (t .at)) _ g .0) .1
 
 -- what a line was read as
 not-read : (o : Option Frame) → lineOf o ≡ Line.Not → o ≡ none

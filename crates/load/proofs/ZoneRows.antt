@@ -1,7 +1,6 @@
 -- The zone that the rows of a plan hold, row by row.
 use mathlib.Core.Bool.{Bool, true, false}
 use mathlib.Core.List.{List, [], _∷_}
-use mathlib.Core.Option.{none}
 use mathlib.Core.Path.{_≡_, refl, sym, ap, _∙_}
 use Prim.Native.Nat.{ℕ, zero, suc, _+_, _-_, _<_, _≤_, min}
 use native.Mathlib.Omega.{arith}
@@ -9,8 +8,6 @@ use borrow.Author.Tests.{eq-eqb, ne-eqb}
 use lib.Dec.{eqb}
 use lib.ListN.{length, getD, take, drop, set, replicate}
 use lib.Seq.{sets, sets-eq, take-append-seam}
-use Rattle.plan.proofs.Fitting.{left}
-use Rattle.plan.specs.Taken.{place}
 use Rattle.zone.specs.Held.{offsetsOf}
 use Rattle.zone.specs.declared.Transition.{Transition}
 use Rattle.zone.specs.declared.Zone.{Zone}

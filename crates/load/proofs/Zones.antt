@@ -11,9 +11,9 @@ use borrow.Author.Tests.{le-leb, ltb-true}
 use lib.Dec.{eqb, ltb}
 use lib.ListN.{length, getD, take, drop, length-take}
 use lib.Seq.{take-all, take-nil, take-take, getD-take}
+use Rattle.calendar.proofs.Every.{both-true}
 use Rattle.calendar.specs.Below.{within}
 use Rattle.lines.specs.Lines.{linesOf}
-use Rattle.plan.proofs.Fitting.{left, right}
 use Rattle.plan.proofs.Loading.{onRest, onEnd, onAllowed, among, taken-allowed}
 use Rattle.plan.specs.Allowed.{allowedFrom, framesAllowed}
 use Rattle.plan.specs.Plan.{changesOf, offsetOf, planZone}
@@ -48,15 +48,15 @@ first-of n b f fs e = by-place (place b f) refl
     by-place none p = absurd (false≢true (rw (allowedFrom, p) at e))
     by-place (some after) p =
         let h : (not (isEnd f) && (frameGood f && (numberGood n f && allowedFrom (n + 1) after fs))) ≡ true = rw (allowedFrom, p) at e in
-        let g = right (not (isEnd f)) _ h in
-        let m = right (frameGood f) _ g in
+        let g = both-true (not (isEnd f)) _ h .1 in
+        let m = both-true (frameGood f) _ g .1 in
         record {
           after = after;
           placed = p;
-          more = not-true (isEnd f) (left (not (isEnd f)) _ h);
-          good = left (frameGood f) _ g;
-          number = left (numberGood n f) _ m;
-          rest = right (numberGood n f) _ m;
+          more = not-true (isEnd f) (both-true (not (isEnd f)) _ h .0);
+          good = both-true (frameGood f) _ g .0;
+          number = both-true (numberGood n f) _ m .0;
+          rest = both-true (numberGood n f) _ m .1;
         }
 
 no-place : {A : Type 0} (b : Before) → none ≡ some b → A
@@ -110,7 +110,7 @@ one-more k low offset t fs l u g r =
     record {
       same = ap (λ (ts : List Transition). t ∷ ts) (r .same);
       few = omega (arith, r .few);
-      good = rw (left (within 1440 52597439 (t .at)) _ g, right (within 1440 52597439 (t .at)) _ g, u, r .good) refl;
+      good = rw (both-true (within 1440 52597439 (t .at)) _ g .0, both-true (within 1440 52597439 (t .at)) _ g .1, u, r .good) refl;
     }
 
 by-limits : (k low offset : ℕ) (t : Transition) (after : Before) (b : Bool) → (ltb k 32 && underLimits low offset t) ≡ b
@@ -126,8 +126,8 @@ changes-read n k low offset (Frame.Offset o ∷ fs) h e =
 changes-read n k low offset (Frame.Change t ∷ fs) h e =
     let p = first-of n (zoned k low offset) (Frame.Change t) fs e in
     let q = by-limits k low offset t (p .after) (ltb k 32 && underLimits low offset t) refl (p .placed) in
-    let l : ltb k 32 ≡ true = left (ltb k 32) _ (q .0) in
-    one-more k low offset t fs l (right (ltb k 32) _ (q .0)) (p .good)
+    let l : ltb k 32 ≡ true = both-true (ltb k 32) _ (q .0) .0 in
+    one-more k low offset t fs l (both-true (ltb k 32) _ (q .0) .1) (p .good)
     (changes-read (n + 1) (suc k) (t .at + 2880) (t .offset) fs (omega (arith, ltb-true k 32 l)) (rw (q .1) at (p .rest)))
 changes-read n k low offset (Frame.Cron f ∷ fs) h e =
     let p = first-of n (zoned k low offset) (Frame.Cron f) fs e in

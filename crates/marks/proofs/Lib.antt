@@ -1,2 +1,3 @@
 -- The marked cases hold of the written meanings.
 pub mod Marked
+pub mod Example

@@ -1,5 +1,5 @@
 -- Bits of a part of a mask, of a shifted one, of a power of two, and of a high and a low part put together.
-use mathlib.Core.Bool.{Bool, true, false, _&&_}
+use mathlib.Core.Bool.{false, _&&_}
 use mathlib.Core.Logic.{dite}
 use mathlib.Core.Path.{_≡_, refl, sym, ap, _∙_}
 use Prim.Native.Nat.{ℕ, suc, _+_, _-_, _*_, _/_, _%_, _^_, _<_, _≤_}
@@ -10,11 +10,6 @@ use borrow.Author.Tests.{lt-ltb, le-ltb, le-leb, lt-leb, eq-eqb, ne-eqb}
 use lib.Dec.{leb, ltb, eqb}
 use lib.Pow.{pow-mono, pow-pos, shl-exact, shr-shr, high, low, field, mod-mod-pow}
 use Rattle.masks.specs.Masks.{bit}
-
--- a Bool by its two cases
-pub decided : {A : Type 0} (b : Bool) → (b ≡ true → A) → (b ≡ false → A) → A
-decided true t f = t refl
-decided false t f = f refl
 
 -- what a shift by n < 64 makes of 1
 pub one-shifted : (n : ℕ) → n < 64 → 1 * 2 ^ n % 2 ^ 64 ≡ 2 ^ n

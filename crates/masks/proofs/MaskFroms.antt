@@ -9,8 +9,9 @@ use native.Mathlib.Omega.{arith}
 use borrow.Author.Tests.{lt-ltb, le-ltb, le-leb, lt-leb, eqb-true, eqb-false}
 use lib.Dec.{leb, ltb, eqb}
 use lib.Pow.{mod-pow-add, shr-shr, shl-lt}
+use Rattle.calendar.proofs.Every.{decided}
 use Rattle.masks.specs.Masks.{bit, maskFrom}
-use Rattle.masks.proofs.Bits.{decided, bit-of-quotient, bit-of-multiple, bit-above, bit-of-zero}
+use Rattle.masks.proofs.Bits.{bit-of-quotient, bit-of-multiple, bit-above, bit-of-zero}
 
 -- tests that agree on the numbers have the same mask
 pub mask-from-same : (test other : ℕ → Bool) (k n : ℕ) → ((i : ℕ) → n ≤ i → i < n + k → test i ≡ other i) → maskFrom test k n ≡ maskFrom other k n

@@ -10,8 +10,9 @@ use borrow.Author.Tests.{lt-ltb, le-ltb, eq-eqb, ne-eqb, eqb-true, eqb-false}
 use lib.Bits.{bitAnd, bitOr, and-shr, and-step, or-shr, or-step, or-add-and, or-lt, and-high}
 use lib.Dec.{eqb}
 use lib.Pow.{pow-add, pow-lt}
+use Rattle.calendar.proofs.Every.{decided}
 use Rattle.masks.specs.Masks.{bit, maskFrom, withBit}
-use Rattle.masks.proofs.Bits.{decided, bit-of-power}
+use Rattle.masks.proofs.Bits.{bit-of-power}
 use Rattle.masks.proofs.MaskFroms.{mask-ext, mask-from-below, mask-from-last, bit-in-mask, bit-below-mask, bit-above-mask}
 
 either-digit : (p q : ℕ) → p < 2 → q < 2 → eqb (max p q) 1 ≡ (eqb p 1 || eqb q 1)

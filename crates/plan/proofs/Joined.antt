@@ -5,11 +5,11 @@ use mathlib.Core.Path.{_≡_, refl, _∙_}
 use Prim.Native.Nat.{ℕ}
 use borrow.Author.Tests.{eqb-true, ne-eqb, ltb-true}
 use lib.Dec.{eqb}
+use Rattle.calendar.proofs.Every.{both-true}
 use Rattle.calendar.specs.Below.{allOf}
 use Rattle.hex.proofs.Digits.{no-line-end}
 use Rattle.hex.specs.Hex.{isDigit}
 use Rattle.lines.specs.Lines.{Lines, before, linesOf}
-use Rattle.plan.proofs.Fitting.{left, right}
 
 -- lines with their LF, and what stands after the last
 unfoldable pub joined : List (List ℕ) → List ℕ → List ℕ
@@ -22,9 +22,9 @@ pub line-first : (line text : List ℕ) → allOf isDigit line ≡ true
 unfolding linesOf
 line-first [] text h = refl
 line-first (c ∷ cs) text h =
-    let d : isDigit c ≡ true = left (isDigit c) _ h in
+    let d : isDigit c ≡ true = both-true (isDigit c) _ h .0 in
     let n : eqb c 10 ≡ false = ne-eqb c 10 (no-line-end c (ltb-true _ _ d)) in
-    let r = line-first cs text (right (isDigit c) _ h) in
+    let r = line-first cs text (both-true (isDigit c) _ h .1) in
     rw (n, linesOf, r)
 
 -- a byte before a text

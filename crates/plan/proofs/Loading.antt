@@ -9,6 +9,7 @@ use native.Mathlib.Omega.{arith}
 use borrow.Author.Tests.{eqb-true, eq-eqb, ltb-true, not-true}
 use lib.Dec.{eqb}
 use lib.ListN.{length}
+use Rattle.calendar.proofs.Every.{both-true}
 use Rattle.calendar.specs.Below.{allOf}
 use Rattle.hex.proofs.Spelt.{isSome, spells-some}
 use Rattle.hex.specs.Hex.{isDigit, spells}
@@ -17,7 +18,7 @@ use Rattle.plan.specs.Allowed.{allowedFrom, framesAllowed}
 use Rattle.plan.specs.Taken.{Before, start, Loaded, taken, refused, frameGood, place, numberGood, isEnd, allowed, loadFrom, load}
 use Rattle.plan.specs.Text.{frameLine, planText, lineFrame}
 use Rattle.plan.specs.declared.Frame.{Frame}
-use Rattle.plan.proofs.Fitting.{left, right, good-fits, end-fits}
+use Rattle.plan.proofs.Fitting.{good-fits, end-fits}
 use Rattle.plan.proofs.Frames.{frame-spells, written-is-read, read-is-written}
 use Rattle.plan.proofs.Joined.{joined, line-first, text-joined}
 
@@ -25,7 +26,7 @@ use Rattle.plan.proofs.Joined.{joined, line-first, text-joined}
 digits-alone : (f : Frame) → allOf isDigit (frameLine f) ≡ true
 unfolding spells
 digits-alone f =
-    right (eqb (length (frameLine f) % 2) 0) _ (spells-some (frameLine f) ∙ ap isSome (frame-spells f))
+    both-true (eqb (length (frameLine f) % 2) 0) _ (spells-some (frameLine f) ∙ ap isSome (frame-spells f)) .1
 
 -- the lines of a plan's text
 pub lines-of-plan : (fs : List Frame) → linesOf (planText fs) ≡ record { whole = map frameLine fs; tail = [] }
@@ -66,7 +67,7 @@ module _ (n : ℕ) (before : Before) (line : List ℕ) (r : Frame × Before) whe
   by-test f after true e p g h =
       let s : (f, after) ≡ r = cc in
       subst (λ (q : Frame × Before). Allows n before line (q .0) (q .1)) s
-      (record { frame = e; placed = p; good = left (frameGood f) _ g; number = right (frameGood f) _ g })
+      (record { frame = e; placed = p; good = both-true (frameGood f) _ g .0; number = both-true (frameGood f) _ g .1 })
   by-test f after false e p g h = nothing r h
 
   by-place : (f : Frame) (o : Option Before) → lineFrame line ≡ some f → place before f ≡ o → onPlace n f o ≡ some r
@@ -153,15 +154,15 @@ by-first : (n : ℕ) (before : Before) (f : Frame) (fs : List Frame) (o : Option
     → onFirst n f fs o ≡ true → First n before f fs
 by-first n before f fs none p h = let z : _≡_ {A = ℕ} 0 1 = cc in absurd (omega arith)
 by-first n before f fs (some after) p h =
-    let h1 = right (not (isEnd f)) _ h in
-    let h2 = right (frameGood f) _ h1 in
+    let h1 = both-true (not (isEnd f)) _ h .1 in
+    let h2 = both-true (frameGood f) _ h1 .1 in
     record {
       after = after;
       placed = p;
-      before-end = not-true (isEnd f) (left (not (isEnd f)) _ h);
-      good = left (frameGood f) _ h1;
-      number = left (numberGood n f) _ h2;
-      others = right (numberGood n f) _ h2;
+      before-end = not-true (isEnd f) (both-true (not (isEnd f)) _ h .0);
+      good = both-true (frameGood f) _ h1 .0;
+      number = both-true (numberGood n f) _ h2 .0;
+      others = both-true (numberGood n f) _ h2 .1;
     }
 
 first-of : (n : ℕ) (before : Before) (f : Frame) (fs : List Frame) → allowedFrom n before (f ∷ fs) ≡ true → First n before f fs
@@ -227,8 +228,8 @@ at-end : (n : ℕ) (before : Before) (line : List ℕ) (more : List (List ℕ)) 
     → Plan n before (line ∷ more) tail fs
 at-end n before line more tail f after fs false a e g h = no-plan (n + 2) fs h
 at-end n before line more tail f after fs true a e g h =
-    let m = empty more (left (eqb (length more) 0) _ g) in
-    let s = empty tail (right (eqb (length more) 0) _ g) in
+    let m = empty more (both-true (eqb (length more) 0) _ g .0) in
+    let s = empty tail (both-true (eqb (length more) 0) _ g .1) in
     let none-left : [] ≡ fs = cc in
     let is : f ≡ Frame.End n = ended n f e (a .number) in
     let w : frameLine (Frame.End n) ≡ line = rw is at (read-is-written line f (a .frame)) in

@@ -85,7 +85,11 @@ pub text-cons : (f : Frame) (fs : List Frame) → wholeLine f ++ planText fs ≡
 unfolding planText
 text-cons f fs = append-assoc (frameLine f) (10 ∷ []) (planText fs)
 
+pub text-append : (fs gs : List Frame) → planText (fs ++ gs) ≡ planText fs ++ planText gs
+unfolding planText
+text-append [] gs = refl
+text-append (f ∷ fs) gs = rw (text-append fs gs) (sym (append-assoc (frameLine f) (10 ∷ planText fs) (planText gs)))
+
 pub text-snoc : (fs : List Frame) (f : Frame) → planText (fs ++ (f ∷ [])) ≡ planText fs ++ wholeLine f
 unfolding planText
-text-snoc [] f = refl
-text-snoc (g ∷ fs) f = rw (text-snoc fs f) (sym (append-assoc (frameLine g) (10 ∷ planText fs) (wholeLine f)))
+text-snoc fs f = text-append fs (f ∷ [])

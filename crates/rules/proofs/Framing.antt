@@ -1,13 +1,14 @@
 -- The frame of parts that go together, but for *last*, is the frame of the rule.
-use mathlib.Core.Bool.{Bool, true, false, cond, not, _&&_, _||_, false≢true}
+use mathlib.Core.Bool.{true, false, cond, not, _&&_, false≢true}
 use mathlib.Core.List.{List}
 use mathlib.Core.Option.{Option, none, some, Option·getD}
 use mathlib.Core.Path.{_≡_, refl, sym, ap, ap₂, _∙_}
 use Prim.Native.Nat.{ℕ, _/_, _^_}
 use borrow.Author.Tests.{not-true}
 use lib.Dec.{eqb}
-use Rattle.calendar.proofs.Every.{both-true}
+use Rattle.calendar.proofs.Every.{neither}
 use Rattle.calendar.specs.Window.{localDate, localWeekday, dayMinutes, windowLast}
+use Rattle.framed.proofs.Goods.{parts-together}
 use Rattle.framed.proofs.Sets.{ordinalsFor, positionsFor}
 use Rattle.framed.specs.Framed.{weekdaysOf, daysOf, frequencyNumber, ruleFrame}
 use Rattle.frames.specs.declared.Ends.{Ends}
@@ -16,7 +17,7 @@ use Rattle.parts.specs.Given.{daysFrom, numbersFrom, partsGiven}
 use Rattle.entries.specs.Lists.{weekdaysGiven, numbersGiven}
 use Rattle.parts.specs.declared.given.Parts.{Parts}
 use Rattle.sheet.specs.Form.{Entry, Frequency, daily, weekly, monthly, Part}
-use Rattle.sheet.specs.Parts.{Given, givenOf, isGiven, givenTwice, ordinals, clashing, byFrequency, partsTogether}
+use Rattle.sheet.specs.Parts.{Given, givenOf, isGiven, ordinals, clashing, byFrequency, partsTogether}
 use Rattle.sheet.specs.Words.{Signed}
 use Rattle.rules.specs.Ruled.{weekdaysIn, daysIn, endless, endingAt}
 use Rattle.rules.proofs.Going.{frequency-in}
@@ -62,12 +63,7 @@ positions-are (some ns) = refl
 no-month-days : (f : Frequency) (g : Given) → clashing f g ≡ false → (eqb (frequencyNumber f) 2 && isGiven (g .monthDays)) ≡ false
 unfolding clashing
 no-month-days daily g e = refl
-no-month-days weekly g e = third (ordinals (g .days)) (isGiven (g .positions)) (isGiven (g .monthDays)) e
-  where
-    third : (a b c : Bool) → (a || (b || c)) ≡ false → c ≡ false
-    third true b c e = absurd (false≢true (sym e))
-    third false true c e = absurd (false≢true (sym e))
-    third false false c e = e
+no-month-days weekly g e = neither (isGiven (g .positions)) _ (neither (ordinals (g .days)) _ e .1) .1
 no-month-days monthly g e = refl
 
 module _ (ps : List Part) (start : ℕ) where
@@ -143,7 +139,4 @@ module _ (ps : List Part) (start : ℕ) where
 
   -- parts that go together
   pub endless-is : partsTogether ps ≡ true → endless p start ≡ endingAt windowLast (ruleFrame g start)
-  unfolding partsTogether
-  endless-is t =
-      endless-by (g .frequency) refl
-      (both-true (not (isGiven (g .count) && isGiven (g .until))) _ (both-true (not (givenTwice ps)) _ t .1) .1)
+  endless-is t = endless-by (g .frequency) refl (parts-together ps t .frequency)

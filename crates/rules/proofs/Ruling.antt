@@ -7,7 +7,7 @@ use Prim.Native.Nat.{ℕ, _-_, _/_, _%_, _<_}
 use native.Mathlib.Omega.{arith}
 use borrow.Author.Tests.{lt-ltb}
 use lib.Dec.{leb, eqb}
-use Rattle.calendar.proofs.Every.{both-true}
+use Rattle.calendar.proofs.Every.{both-true, decided}
 use Rattle.calendar.specs.Below.{allOf}
 use Rattle.calendar.specs.Window.{dayMinutes, windowDays, windowMinutes, windowLast}
 use Rattle.days.proofs.Nths.{nth-same}
@@ -16,7 +16,6 @@ use Rattle.framed.proofs.Goods.{givenPasses, written, rule-good}
 use Rattle.framed.specs.Framed.{minuteOn, nthLast, lastBy, lastOf, ruleFrame}
 use Rattle.frames.specs.Rule.{ruleDay, ruleOccurs}
 use Rattle.frames.specs.declared.Rule.{Rule}
-use Rattle.masks.proofs.Bits.{decided}
 use Rattle.parts.specs.Given.{countFrom, untilFrom, partsGiven}
 use Rattle.parts.specs.declared.given.Parts.{Parts}
 use Rattle.sheet.proofs.Times.{minute-in-window}

@@ -51,7 +51,8 @@ fn together(p: Parts) -> bool
     by_frequency(p)
 }
 
-fn start_in(p: Parts, f: Rule) -> bool
+// The start is an occurrence, and not after UNTIL.
+fn start_held_in(p: Parts, f: Rule) -> bool
     ensures { λ r. ⌜ r ≡ startHeldIn p f ⌝ }
 {
     let until = p.until;
@@ -72,7 +73,7 @@ pub fn rule_of(p: Parts, start: u64) -> Ruled
         return Ruled::Apart;
     }
     let f = frame::endless(p, start);
-    if !start_in(p, f) {
+    if !start_held_in(p, f) {
         return Ruled::NoStart;
     }
     let mut r = f;

@@ -1,3 +1,4 @@
--- What the sheets of the bench list hold, and where times lie.
+-- What the sheets of the bench list hold, where times lie, and where a bad line stands.
 pub mod Cases
 pub mod Times
+pub mod BadLines

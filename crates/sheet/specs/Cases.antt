@@ -34,8 +34,12 @@ isInstant fs m i = sheetHeld fs m && eqb (instantOf (sheetZone fs) m) (i + bias)
 abbrev pub heldDays : List Form → ℕ → ℕ → ℕ
 heldDays fs k m = countFrom (λ d. sheetHeld fs (m + dayMinutes * d)) k 0
 
+-- "Whole example"
+abbrev pub exampleText : String
+exampleText = "Z +0100\nT 20260329T0100 +0200\nT 20261025T0100 +0100\nC 30 2 * * *\n"
+
 unfoldable pub example : List Form
-example = sheet "Z +0100\nT 20260329T0100 +0200\nT 20261025T0100 +0100\nC 30 2 * * *\n"
+example = sheet exampleText
 
 unfoldable pub thirds : List Form
 thirds = sheet "Z +0000\nR 20260131T0600 FREQ=MONTHLY;COUNT=3\n"

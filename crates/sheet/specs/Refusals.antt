@@ -6,7 +6,7 @@ use Prim.Native.Nat.{ℕ, zero, suc, _+_}
 use lib.Dec.{leb, ltb, eqb}
 use lib.ListN.{length}
 use Rattle.calendar.specs.Below.{within, allOf}
-use Rattle.lines.specs.Lines.{linesOf}
+use Rattle.lines.specs.Lines.{linesOf, linesIn}
 use Rattle.zone.specs.Zone.{underLimits, distance}
 use Rattle.sheet.specs.Form.{Form, zone, change, cron, rule, extra, except, formOf}
 use Rattle.sheet.specs.Meaning.{occursAt, withinUntil}
@@ -82,21 +82,18 @@ pub data Sheet : Type 0 where
 
 -- "1: sheet over 16,448 bytes or over 64 lines (a tail without LF is a line)"
 unfoldable pub tooLong : List ℕ → Bool
-tooLong text =
-    let r = linesOf text in
-    ltb 16448 (length text) || ltb 64 (length (r .whole) + cond (eqb (length (r .tail)) 0) 0 1)
+tooLong text = ltb 16448 (length text) || ltb 64 (linesIn text)
 
 -- the end of the sheet after n lines: "line without LF"; "an empty sheet (line 1)"
-ended : ℕ → List ℕ → Sheet
+abbrev pub ended : ℕ → List ℕ → Sheet
 ended n tail = cond (ltb 0 (length tail)) (refused 2 (n + 1)) (cond (eqb n 0) (refused 4 1) (taken []))
 
-following : Form → Sheet → Sheet
+abbrev pub following : Form → Sheet → Sheet
 following f (taken fs) = taken (f ∷ fs)
 following f (refused n k) = refused n k
 
 -- "the first bad line decides": n lines are good
 unfoldable pub readFrom : ℕ → Context → List (List ℕ) → List ℕ → Sheet
-unfolding ended following
 readFrom n c [] tail = ended n tail
 readFrom n c (line ∷ more) tail =
     elim (formOf line) [
@@ -107,17 +104,25 @@ readFrom n c (line ∷ more) tail =
       ]
     ]
 
+-- before the first line
+abbrev pub first : Context
+first = record { before = start; low = 0; offset = 0 }
+
 -- "1 comes first; then the first bad line decides"
 unfoldable pub readSheet : List ℕ → Sheet
 readSheet text =
     let r = linesOf text in
-    elim (tooLong text) [
-      | true ↦ refused 1 0
-      | false ↦ readFrom 0 (record { before = start; low = 0; offset = 0 }) (r .whole) (r .tail)
-    ]
+    elim (tooLong text) [ true ↦ refused 1 0 | false ↦ readFrom 0 first (r .whole) (r .tail) ]
 
--- "For 2 to 8 an entry also shows the bad line as a part of the lent sheet without LF, empty for line 0 or past the end":
--- where line k, counted from 1, starts, and how long it is
+-- "For 2 to 8 an entry also shows the bad line as a part of the lent sheet without LF, empty for line 0 or past the end": line k, counted from 1
+unfoldable pub badLine : ℕ → List (List ℕ) → List ℕ → List ℕ
+badLine zero ls tail = []
+badLine (suc zero) [] tail = tail
+badLine (suc (suc k)) [] tail = []
+badLine (suc zero) (l ∷ ls) tail = l
+badLine (suc (suc k)) (l ∷ ls) tail = badLine (suc k) ls tail
+
+-- its place in the sheet, and its length
 unfoldable pub badAt : ℕ → List (List ℕ) → ℕ
 badAt zero ls = 0
 badAt (suc zero) ls = 0
@@ -125,7 +130,4 @@ badAt (suc (suc k)) [] = 0
 badAt (suc (suc k)) (l ∷ ls) = length l + 1 + badAt (suc k) ls
 
 unfoldable pub badLength : ℕ → List (List ℕ) → List ℕ → ℕ
-badLength zero ls tail = 0
-badLength (suc k) [] tail = length tail
-badLength (suc zero) (l ∷ ls) tail = length l
-badLength (suc (suc k)) (l ∷ ls) tail = badLength (suc k) ls tail
+badLength k ls tail = length (badLine k ls tail)

@@ -1,7 +1,6 @@
 -- By the bytes, then by the lines.
 use mathlib.Core.Path.{refl}
 use borrow.Author.Tests.{lt-ltb, le-ltb}
-use Rattle.lines.specs.Lines.{linesIn}
 use Rattle.sheet.specs.Refusals.{tooLong}
 use borrow.Author.Needs.{needs}
 use Rattle.compile.proofs.too_long.Statement.{statement}
@@ -15,7 +14,7 @@ line-count-requires : tie.Need-line-count-requires
 line-count-requires c κs = search needs
 
 returns-2 : tie.Need-returns-2
-unfolding tooLong linesIn
+unfolding tooLong
 returns-2 c = rw (le-ltb _ _ (c .before .if1 .left), ← c .line-count .ensures) refl
 
 pub too-long-spec : {M : Type 1} → statement M

@@ -21,14 +21,14 @@ returns c = rw (stopped (c .before .together .ensures) (c .if1 .taken))
 endless-requires : tie.Need-endless-requires
 endless-requires c κs = search needs
 
-start-in-requires : tie.Need-start-in-requires
-start-in-requires c κs = search needs
+start-held-in-requires : tie.Need-start-held-in-requires
+start-held-in-requires c κs = search needs
 
 returns-2 : tie.Need-returns-2
 unfolding ruledFrom
 returns-2 c =
     let e = c .before .before in
-    rw (go (e .before), ← e .endless .ensures, stopped (c .before .start-in .ensures) (c .if2 .taken))
+    rw (go (e .before), ← e .endless .ensures, stopped (c .before .start-held-in .ensures) (c .if2 .taken))
 
 last-in-requires : tie.Need-last-in-requires
 last-in-requires c κs = search needs
@@ -38,7 +38,7 @@ unfolding ruledFrom
 returns-3 c =
     let s = c .before .before in
     let e = s .before in
-    rw (go (e .before), ← e .endless .ensures, passed (s .start-in .ensures) (c .before .if2 .left), c .last-in .ensures)
+    rw (go (e .before), ← e .endless .ensures, passed (s .start-held-in .ensures) (c .before .if2 .left), c .last-in .ensures)
 
 pub rule-of-spec : {M : Type 1} → statement M
 rule-of-spec =
@@ -47,7 +47,7 @@ rule-of-spec =
     together-requires
     returns
     endless-requires
-    start-in-requires
+    start-held-in-requires
     returns-2
     last-in-requires
     returns-3)
