@@ -138,11 +138,12 @@ static int has_plan(void) {
 }
 
 static void forget(void) {
-    for (int call = 0; last.text != NULL && has_plan() && call < CALLS; call++) {
+    for (int call = 0; has_plan() && call < CALLS; call++) {
         give_back(last.plans[call]);
     }
     free(last.text);
     last.text = NULL;
+    last.made.fits = 0;
 }
 
 /* Makes the text's plan the last one: 1, or 0 where it is no text. */
@@ -157,15 +158,15 @@ static int remember(char *text, char *end) {
     memcpy(last.text, text, written);
     last.length = written;
     ptrdiff_t length = shown_bytes(text, written);
-    if (length >= 0) {
-        last.made = compile(0, text, (size_t)length, MOST_ROOM);
-    } else {
-        last.made.fits = 0;
+    if (length < 0) {
+        forget();
+        return 0;
     }
+    last.made = compile(0, text, (size_t)length, MOST_ROOM);
     for (int call = 0; has_plan() && call < CALLS; call++) {
         last.plans[call] = lend(last.made.plan, (size_t)last.made.answer.length, call == 0 ? LENT_AFTER : LENT_BEFORE);
     }
-    return length >= 0;
+    return 1;
 }
 
 static void say_no_plan(void) {
