@@ -211,6 +211,18 @@ static void in_turn(search *one, int64_t asked, int64_t count) {
     }
 }
 
+/* Whether instants with commas between stand there, up to the text. */
+static int are_instants(char *at, const char *text) {
+    int64_t asked;
+    char after = ',';
+    while (after == ',') {
+        if (!read_number(&at, &asked, &after)) {
+            return 0;
+        }
+    }
+    return at == text;
+}
+
 static int searches(search *one, char *at, char *end) {
     int64_t count, asked;
     char after;
@@ -218,7 +230,7 @@ static int searches(search *one, char *at, char *end) {
         return 0;
     }
     char *text = memchr(at, ' ', (size_t)(end - at));
-    if (text == NULL || !remember(text + 1, end)) {
+    if (text == NULL || !are_instants(at, text + 1) || !remember(text + 1, end)) {
         return 0;
     }
     if (!has_plan()) {
@@ -226,14 +238,10 @@ static int searches(search *one, char *at, char *end) {
         return 1;
     }
     const char *between = "";
-    do {
-        if (!read_number(&at, &asked, &after)) {
-            return 0;
-        }
+    for (after = ','; after == ',' && read_number(&at, &asked, &after); between = ",") {
         fputs(between, stdout);
         in_turn(one, asked, count);
-        between = ",";
-    } while (after == ',');
+    }
     return 1;
 }
 
