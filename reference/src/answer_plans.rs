@@ -23,8 +23,12 @@ pub fn answer(request: &str) -> Option<String> {
             let found = plan.check();
             Some(format!("{} {}", found.number, found.line))
         }
-        ("next", &[asked, count]) => Some(texts(in_turn(asked, count, |at| plan.next(at)))),
-        ("previous", &[asked, count]) => Some(texts(in_turn(asked, count, |at| plan.previous(at)))),
+        ("next", &[asked, count]) if count > 0 => {
+            Some(texts(in_turn(asked, count, |at| plan.next(at))))
+        }
+        ("previous", &[asked, count]) if count > 0 => {
+            Some(texts(in_turn(asked, count, |at| plan.previous(at))))
+        }
         ("local", minutes @ [_, ..]) => {
             let found = minutes.iter().map(|&minute| plan.instant_of_local(minute));
             Some(texts(found))
@@ -47,7 +51,7 @@ fn loaded(word: &str) -> Rc<Loaded> {
     })
 }
 
-/// Answers that are each asked from the one before, so many or up to a refusal.
+/// Answers that are each asked from the one before, so many, which is at least one, or up to a refusal.
 pub fn in_turn(asked: i64, count: i64, search: impl Fn(i64) -> Found) -> Vec<Found> {
     let mut all = vec![search(asked)];
     while let Some(found) = all.last().filter(|found| found.number == 0) {

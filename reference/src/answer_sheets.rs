@@ -33,7 +33,8 @@ pub fn answer(request: &str) -> Option<String> {
         }
         "sheet_next" | "sheet_previous" => {
             let mut words = rest.splitn(3, ' ');
-            let count: i64 = words.next()?.parse().ok()?;
+            let count: Option<i64> = words.next()?.parse().ok();
+            let count = count.filter(|&count| count > 0)?;
             let instants = words.next()?.split(',').map(|word| word.parse().ok());
             let instants: Vec<i64> = instants.collect::<Option<_>>()?;
             let sheet = read(words.next()?)?;

@@ -1,6 +1,8 @@
 //! The load check: "A plan is taken exactly if", with the line number of refusal 10.
 
+use reference::answer::answer;
 use reference::entries::{compile, Loaded};
+use reference::hex::word_of;
 
 const ZONE: &str = "01003C";
 const CRON: &str = "03000000004000000000000004FFFFFFFE1FFE7F00";
@@ -299,4 +301,17 @@ fn the_last_field() {
     assert_eq!(field("FREQ=DAILY;COUNT=1"), Some(13_719_240));
     assert_eq!(field("FREQ=MONTHLY;COUNT=3"), Some(13_892_040));
     assert_eq!(field("FREQ=MONTHLY;COUNT=9999"), Some(52_595_999));
+}
+
+/// At least one answer is asked for, as the driver wants it.
+#[test]
+fn requests_of_another_form() {
+    let plan = word_of(plan(&[ZONE]).as_bytes());
+    for name in ["next", "previous"] {
+        let good = format!("{name} {plan} 0 1");
+        assert_eq!(answer(&good).as_deref(), Some("11 0 0"));
+        for rest in ["0 0", "0 -1", "0", "0 1 1"] {
+            assert_eq!(answer(&format!("{name} {plan} {rest}")), None, "{rest}");
+        }
+    }
 }

@@ -74,6 +74,8 @@ fn refused_sheets() {
         "sheet 5 \\0",
         "sheet_next 1 Z",
         "sheet_next 1 0,x Z",
+        "sheet_next 0 0 Z +0100\\0A",
+        "sheet_previous 0 0 Z +0100\\0A",
     ] {
         assert_eq!(answer(bad), None, "{bad}");
     }
