@@ -159,19 +159,29 @@ fn the_suite_asks_each_refusal_at_every_place() {
     }
 }
 
-/// Sheets at both sides of the limits, with an LF at the end and without.
+/// Sheets at both sides of the limits, with an LF at the end and without, and as long as README says.
 #[test]
 fn the_suite_asks_the_longest_sheets() {
     let mut seen = BTreeSet::new();
+    let (mut all_lengths, mut all_lines) = (BTreeSet::new(), BTreeSet::new());
     for sheet in lengths::all() {
         let lines = sheet.split_inclusive(|&byte| byte == b'\n').count();
         let number = read(&sheet).map_or_else(|refusal| refusal.number, |_| 0);
+        all_lengths.insert(sheet.len());
+        all_lines.insert(lines);
         seen.insert((
             sheet.len().clamp(16_447, 16_450),
             lines.clamp(63, 66),
             sheet.ends_with(b"\n"),
             number == 1,
         ));
+    }
+    for length in (16_445..=16_452).chain([0, 20_000]) {
+        assert!(all_lengths.contains(&length), "{length}");
+    }
+    assert_eq!(all_lengths.iter().max(), Some(&131_137));
+    for lines in (0..=71).chain([517]) {
+        assert!(all_lines.contains(&lines), "{lines}");
     }
     for ended in [true, false] {
         for (length, lines, refused) in [
@@ -195,6 +205,24 @@ fn the_suite_asks_the_longest_sheets() {
             (longest.len(), read(&longest).is_ok()),
             (8 + 257 * (lines - 1), true)
         );
+    }
+}
+
+/// "no plan is longer": in a buffer of a byte too few, of just enough and of a byte more.
+#[test]
+fn the_suite_asks_the_longest_plan() {
+    let longest = lengths::longest_plan();
+    let compiled = requests(1, 0).filter_map(|request| compiled(&request));
+    let asked = compiled.filter(|(_, sheet)| sheet == longest.as_bytes());
+    let rooms: BTreeSet<usize> = asked.map(|(room, _)| room).collect();
+    for (room, wanted) in [
+        (4_988, "9 0 0 0 0 -"),
+        (4_989, "0 0 4989 0 0 01003C\\0A04"),
+        (4_990, "0 0 4989 0 0 01003C\\0A04"),
+    ] {
+        assert!(rooms.contains(&room), "{rooms:?}");
+        let answer = answered(&request(room, longest.as_bytes()));
+        assert!(answer.starts_with(wanted), "{answer}");
     }
 }
 

@@ -2,8 +2,9 @@
 
 use super::EXAMPLE;
 use crate::cases_lines::lengths::lists_of;
+use crate::local::written;
+use crate::sheet::MOST_BYTES;
 
-const MOST_BYTES: usize = 16_448;
 const ZONE: &[u8] = b"Z +0100\n";
 const EXTRA: &[u8] = b"D 20260329T0230\n";
 
@@ -80,6 +81,12 @@ pub fn longest_taken(lines: usize) -> Vec<u8> {
     all.concat()
 }
 
+/// A zone and 63 rules, each with another start: no plan is longer than this sheet's 4,989 bytes.
+pub fn longest_plan() -> String {
+    let rules = (0..63).map(|minute| format!("R {} FREQ=DAILY\n", written(minute)));
+    ["Z +0100\n".to_string()].into_iter().chain(rules).collect()
+}
+
 /// A line of about 256 bytes at each of some places.
 fn long_lines() -> Vec<Vec<u8>> {
     let mut all = Vec::new();
@@ -94,12 +101,13 @@ fn long_lines() -> Vec<Vec<u8>> {
     all
 }
 
-/// Sheets of which the example, or nothing, would be left if the length were cut to 16 bits; and about twice the most.
+/// Sheets of which the example, or nothing, would be left if the length were cut to 16 bits; and less far above the most.
 fn cut_to_less() -> Vec<Vec<u8>> {
     let example = EXAMPLE.as_bytes();
     let more = [65_536, 131_072].map(|length| length + example.len());
+    let less = [20_000, 2 * MOST_BYTES, 65_535, 65_536];
     let mut all = Vec::new();
-    for length in [2 * MOST_BYTES, 65_535, 65_536].into_iter().chain(more) {
+    for length in less.into_iter().chain(more) {
         for filler in [b" ", b"0", b"\n", b"\0"] {
             let filler = filler.repeat(length - example.len());
             all.push([example, &filler].concat());

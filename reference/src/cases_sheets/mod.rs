@@ -22,7 +22,7 @@ const DAMAGES: u64 = 8;
 pub const MOST_ROOM: usize = 16_384;
 
 /// Document 01's whole example.
-const EXAMPLE: &str = "\
+pub const EXAMPLE: &str = "\
 Z +0100
 T 20260329T0100 +0200
 T 20261025T0100 +0100
@@ -61,7 +61,7 @@ pub fn requests(seed: u64, times: u64) -> Box<dyn Iterator<Item = String>> {
 }
 
 /// Sheets that are only compiled.
-fn fixed_sheets(random: &mut Random) -> Vec<Vec<u8>> {
+pub fn fixed_sheets(random: &mut Random) -> Vec<Vec<u8>> {
     let mut all = lengths::all();
     all.extend(faults::all(random));
     all.extend(at_every_byte(SMALL.as_bytes()));
@@ -71,25 +71,44 @@ fn fixed_sheets(random: &mut Random) -> Vec<Vec<u8>> {
     all
 }
 
-fn searched_sheets() -> Vec<String> {
+pub fn searched_sheets() -> Vec<String> {
     let written = [EXAMPLE, SMALL, EVERY_KIND].map(str::to_string);
-    let all = written.into_iter().chain(sheets_at_the_ends());
+    let all = written.into_iter().chain([lengths::longest_plan()]);
+    let all = all.chain(sheets_at_the_ends());
     all.chain(sheets_of_positions()).collect()
 }
 
-/// A sheet of a sort and one of so many lines, which are taken; damaged ones; and one for each refusal.
-fn round(number: u64, random: &mut Random) -> Vec<String> {
+/// The sheets of a round: those that are searched are taken.
+pub struct Round {
+    pub searched: [String; 2],
+    pub compiled: Vec<Vec<u8>>,
+}
+
+/// A sheet of a sort and one of so many lines; damaged ones, and one for each refusal.
+pub fn sheets_of_round(number: u64, random: &mut Random) -> Round {
     let lines = 1 + number % MOST_LINES;
     let some = some_sheet(number % SORTS, random);
     let mixed = sheet_of_lines(lines as usize, random);
-    let mut all = about(some.as_bytes(), random);
-    all.extend(about(mixed.as_bytes(), random));
-    for _ in 0..DAMAGES {
-        all.extend(compiled(&damaged(mixed.as_bytes(), random), random));
-    }
+    let damages = (0..DAMAGES).map(|_| damaged(mixed.as_bytes(), random));
+    let mut compiled: Vec<Vec<u8>> = damages.collect();
     for refusal in REFUSED_BY {
-        all.extend(compiled(&refused_sheet(refusal, random), random));
-        all.extend(compiled(&bad_sheet(refusal, random), random));
+        compiled.push(refused_sheet(refusal, random));
+        compiled.push(bad_sheet(refusal, random));
+    }
+    Round {
+        searched: [some, mixed],
+        compiled,
+    }
+}
+
+fn round(number: u64, random: &mut Random) -> Vec<String> {
+    let sheets = sheets_of_round(number, random);
+    let mut all = Vec::new();
+    for sheet in sheets.searched {
+        all.extend(about(sheet.as_bytes(), random));
+    }
+    for sheet in sheets.compiled {
+        all.extend(compiled(&sheet, random));
     }
     all
 }

@@ -16,7 +16,7 @@ use line::Line;
 /// "At most 64 lines, each at most 256 bytes and then LF"; "sheet over 16,448 bytes".
 const MOST_LINES: usize = 64;
 const MOST_LINE_BYTES: usize = 256;
-const MOST_BYTES: usize = 16_448;
+pub const MOST_BYTES: usize = 16_448;
 
 /// A refusal's number and line, and the bad line without LF as a part of the sheet.
 #[derive(Clone, Copy, Debug, PartialEq, Eq)]
