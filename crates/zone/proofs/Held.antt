@@ -2,10 +2,9 @@
 use mathlib.Core.List.{List, [], _∷_, _++_}
 use mathlib.Core.Path.{_≡_, refl, sym, ap, _∙_}
 use Prim.Native.Nat.{ℕ, zero, suc, _+_, _-_, _<_, _≤_, min}
-use native.Mathlib.Numerals.{add-one}
 use native.Mathlib.Omega.{arith}
 use lib.ListN.{length, getD, take, drop, length-map, length-take, drop-of-length-le}
-use lib.Seq.{drop-cons, take-all, take-suc, take-take, getD-take}
+use lib.Seq.{take-all, take-suc, take-take, getD-take}
 use denote.Laws.{Is}
 use denote.Struct.Declared.{row}
 use denote.Struct.Laws.{val}
@@ -14,6 +13,7 @@ use Rattle.zone.specs.Stretches.{offsetAfter, boundary, endIn, stretchOf
 use Rattle.zone.specs.declared.Transition.{Transition}
 use Rattle.zone.specs.declared.Zone.{Zone}
 use Rattle.zone.proofs.Good.{by-order}
+use Rattle.zone.proofs.Over.{nth, left-from}
 use Rattle.zone.proofs.Zone.{the-type}
 use Rattle.zone.proofs.Zone.Laws.{the-laws}
 
@@ -23,7 +23,7 @@ Passed z = Is (row the-type) z (val the-type the-laws z ∷ [])
 
 -- the transition in place k
 abbrev pub heldAt : Zone → ℕ → Transition
-heldAt z k = getD (z .changes) k (record { at = 0; offset = 0 })
+heldAt z k = nth (z .changes) k
 
 -- the last of k transitions
 offset-last : (offset : ℕ) (ts : List Transition) (t : Transition) → offsetAfter offset (ts ++ (t ∷ [])) ≡ t .offset
@@ -46,14 +46,14 @@ take-both k n l =
     (λ b. let e : min k n ≡ k = omega arith in rw e (take-take k n l (omega arith)))
 
 module _ (z : Zone) (passed : Passed z) where
-  whole : length (z .changes) ≡ 32
+  pub whole : length (z .changes) ≡ 32
   whole = sym (length-map (z .changes) _) ∙ passed .1 .1 .1 .1 .0 .1 .0 .1
 
   pub held-length : length (offsetsOf z .changes) ≡ min (z .count) 32
   unfolding offsetsOf
   held-length = omega (arith, whole, length-take (z .count) (z .changes))
 
-  held-front : offsetsOf z .changes ≡ take (min (z .count) 32) (z .changes)
+  pub held-front : offsetsOf z .changes ≡ take (min (z .count) 32) (z .changes)
   unfolding offsetsOf
   held-front = ap (λ (l : List Transition). take (z .count) l) (sym (take-all 32 (z .changes) (omega (arith, whole)))) ∙ take-both (z .count) 32 (z .changes)
 
@@ -79,15 +79,13 @@ module _ (z : Zone) (passed : Passed z) where
   unfolding stretchOffset offsetsOf
   held-offset k n e p = ap (offsetAfter (z .first)) (held-some k n e p) ∙ offset-last (z .first) (take (n - 1) (z .changes)) _
 
-  held-at : (k : ℕ) → k < min (z .count) 32 → getD (offsetsOf z .changes) k (record { at = 0; offset = 0 }) ≡ heldAt z k
+  held-at : (k : ℕ) → k < min (z .count) 32 → nth (offsetsOf z .changes) k ≡ heldAt z k
   unfolding offsetsOf
   held-at k l = getD-take (z .count) (z .changes) k _ (omega arith)
 
   -- what is left from place k on
   pub held-next : (k : ℕ) → k < min (z .count) 32 → drop k (offsetsOf z .changes) ≡ heldAt z k ∷ drop (k + 1) (offsetsOf z .changes)
-  held-next k l =
-      let b : k < length (offsetsOf z .changes) = omega (arith, held-length) in
-      rw (add-one, ← held-at k l) (drop-cons (offsetsOf z .changes) k _ b)
+  held-next k l = rw (← held-at k l) (left-from (offsetsOf z .changes) k (omega (arith, held-length)))
 
   pub held-over : (k : ℕ) → min (z .count) 32 ≤ k → drop k (offsetsOf z .changes) ≡ []
   held-over k l = drop-of-length-le (offsetsOf z .changes) {i = k} (omega (arith, held-length))

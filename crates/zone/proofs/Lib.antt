@@ -4,3 +4,6 @@ pub mod Meaning
 pub mod Stretches
 pub mod Shown
 pub mod Held
+pub mod Over
+pub mod Lending
+pub mod Walking

@@ -29,19 +29,26 @@ pub struct Zone {
     pub changes: [Transition; CHANGES],
 }
 
-// The offset at an instant.
-pub fn offset_at(zone: Zone, instant: u64) -> u64
-    ensures { λ r. ⌜ r ≡ offsetAt (offsetsOf zone) instant ⌝ }
+// The offset at an instant, over any transitions.
+pub fn offset_over(changes: &[Transition], first: u64, instant: u64) -> u64
+    ensures { λ r. ⌜ r ≡ offsetAt (record { first = first; changes = now (changes .entry) }) instant ⌝ }
 {
-    let n = fewer(zone.count, CHANGES);
-    let mut offset = zone.first;
+    let mut offset = first;
     let mut k: usize = 0;
-    while k < n {
-        let change = zone.changes[k];
+    while k < changes.len() {
+        let change = changes[k];
         if change.at <= instant {
             offset = change.offset;
         }
         k += 1;
     }
     offset
+}
+
+// The offset of a zone at an instant: lends its transitions, as no other function does.
+pub fn offset_at(zone: Zone, instant: u64) -> u64
+    ensures { λ r. ⌜ r ≡ offsetAt (offsetsOf zone) instant ⌝ }
+{
+    let n = fewer(zone.count, CHANGES);
+    offset_over(&zone.changes[..n], zone.first, instant)
 }
