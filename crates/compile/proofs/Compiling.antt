@@ -1,5 +1,5 @@
 -- A sheet that is taken or refused, and what comes of it.
-use mathlib.Core.Bool.{Bool, true, false, cond, _||_}
+use mathlib.Core.Bool.{true, false}
 use mathlib.Core.List.{List, [], _∷_, _++_, map}
 use mathlib.Core.Path.{_≡_, refl, sym, ap, _∙_}
 use Prim.Native.Nat.{ℕ, suc, _+_, _-_, _<_, _≤_}
@@ -9,6 +9,7 @@ use borrow.Author.Tests.{lt-ltb, le-ltb, ltb-false}
 use lib.Dec.{ltb}
 use lib.ListN.{length, drop, length-append, length-map}
 use lib.Seq.{sets, length-sets, sets-eq, take-append-seam}
+use Rattle.calendar.proofs.Every.{neither}
 use Rattle.framed.specs.Framed.{frameOf}
 use Rattle.hex.proofs.Puts.{put-inside}
 use Rattle.hex.specs.Hex.{putAt}
@@ -21,8 +22,8 @@ use Rattle.plan.specs.declared.Frame.{Frame}
 use Rattle.sheet.specs.Form.{Form}
 use Rattle.sheet.specs.Refusals.{Sheet, taken, refused, tooLong, readSheet, badLine, badAt, badLength}
 use Rattle.compile.specs.Answers.{compiledAs, leftIn, framesIn}
-use Rattle.compile.specs.Compiled.{Compiled, plan, refusal, framesAfter, compiledFrames, compiledText, compile}
-use Rattle.compile.specs.Reading.{SheetFrames, frames, sheetFrames, framesRead, refusalAs, readAs, first}
+use Rattle.compile.specs.Compiled.{plan, refusal, framesAfter, compiledFrames, compiledText, compile}
+use Rattle.compile.specs.Reading.{frames, sheetFrames, framesRead, refusalAs, readAs, first}
 use Rattle.compile.specs.declared.Compiled.{Compiled as Answer}
 use Rattle.compile.specs.declared.Refusal.{Refusal}
 use Rattle.compile.specs.declared.reading.Gathered.{Gathered}
@@ -45,6 +46,10 @@ compiled-length fs =
     ap (λ (gs : List Frame). length (planText gs)) (compiled-frames fs)
     ∙ ap length (text-snoc (map frameOf fs) (Frame.End (length fs)))
     ∙ length-append (planText (map frameOf fs)) (wholeLine (Frame.End (length fs)))
+
+pub short : (text : List ℕ) → tooLong text ≡ false → linesIn text ≤ 64
+unfolding tooLong
+short text e = ltb-false 64 _ (neither (ltb 16448 (length text)) (ltb 64 (linesIn text)) e .1)
 
 -- ---- what compiling is
 module _ (text : List ℕ) (room : ℕ) where
@@ -71,14 +76,6 @@ module _ (text : List ℕ) (room : ℕ) where
           let z : 0 + badAt line (linesOf text .whole) ≡ badAt line (linesOf text .whole) = omega arith in
           let r : b ≡ refusalAs number line (badAt line (linesOf text .whole)) (badLength line (linesOf text .whole) (linesOf text .tail)) = cc (k, z) in
           rw (compile, g, r) refl
-
-  pub short : tooLong text ≡ false → linesIn text ≤ 64
-  unfolding tooLong
-  short e = ltb-false 64 _ (by-bytes (ltb 16448 (length text)) _ e)
-    where
-      by-bytes : (a b : Bool) → (a || b) ≡ false → b ≡ false
-      by-bytes true b e = let z : _≡_ {A = ℕ} 0 1 = cc in absurd (omega arith)
-      by-bytes false b e = e
 
 -- ---- a sheet that is taken
 pub record TakenAs (text : List ℕ) (n bytes : ℕ) : Type 0 where

@@ -10,7 +10,7 @@ use lib.Dec.{ltb, eqb}
 use lib.ListN.{length}
 use Rattle.framed.specs.Framed.{frameOf}
 use Rattle.line.proofs.Numbered.{lined-number, lined-frame, lined-is}
-use Rattle.line.specs.Lined.{beforeAs, contextAs, lined, refusalOf}
+use Rattle.line.specs.Lined.{contextAs, lined, refusalOf}
 use Rattle.line.specs.declared.Before.{Before}
 use Rattle.line.specs.declared.Context.{Context}
 use Rattle.line.specs.declared.Lined.{Lined}
@@ -19,8 +19,8 @@ use Rattle.plan.specs.declared.Frame.{Frame}
 use Rattle.sheet.specs.Form.{Form, zone, change, cron, rule, extra, except, formOf}
 use Rattle.sheet.specs.Range.{instantOfTime}
 use Rattle.sheet.specs.Refusals.{Context as Standings, contextAfter, lineRefusal, Sheet, taken, refused as refusedSheet, following as followed, tooLong, readFrom, readSheet, badLine, badAt, badLength}
-use Rattle.compile.specs.Reading.{SheetFrames, frames, refused, following, sheetFramesFrom, first, sheetFrames, framesFrom, framesRead}
-use Rattle.compile.specs.Steps.{oneMore, nextContext}
+use Rattle.compile.specs.Reading.{SheetFrames, frames, refused, following, sheetFramesFrom, first, sheetFrames, framesFrom}
+use Rattle.compile.specs.Steps.{nextContext}
 
 -- what stands before the next line, by the frame and by the form
 context-next : (c : Context) (f : Form) → contextAs (nextContext c (frameOf f)) ≡ contextAfter (contextAs c) f

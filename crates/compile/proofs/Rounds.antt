@@ -5,11 +5,10 @@ use mathlib.Core.Path.{_≡_, refl, sym, ap, _∙_}
 use Prim.Native.Nat.{ℕ, suc, _+_, _-_, _*_, _<_, _≤_}
 use native.Mathlib.Omega.{arith}
 use borrow.Author.Tests.{lt-ltb, le-leb}
-use lib.Dec.{ltb, eqb}
+use lib.Dec.{eqb}
 use lib.ListN.{length, take, drop, set, length-drop, length-take, length-append, drop-of-length-le}
 use lib.Seq.{sets}
 use Rattle.line.specs.Lined.{contextAs, lined}
-use Rattle.line.specs.declared.Context.{Context}
 use Rattle.line.specs.declared.Lined.{Lined}
 use Rattle.lines.proofs.Ends.{end-least, lines-at, lines-none}
 use Rattle.lines.specs.Lines.{Lines, linesOf, linesIn, lineEnd}

@@ -14,10 +14,10 @@ use Rattle.plan.specs.Allowed.{allowedFrom, framesAllowed}
 use Rattle.plan.specs.Taken.{Before as Standing, taken as takenFrames, frameGood, place, numberGood, isEnd, load}
 use Rattle.sheet.specs.Form.{Time, Shift, Form, zone, change, cron, rule, extra, except}
 use Rattle.sheet.specs.Place.{Before, start, zoned, lines, after}
-use Rattle.sheet.specs.Refusals.{Context, contextAfter, taken, readSheet}
+use Rattle.sheet.specs.Refusals.{Context, contextAfter, taken, readSheet, first}
 use Rattle.compile.proofs.Compiling.{compiled-frames}
 use Rattle.demands.proofs.FrameGoods.{line-frame-good, frame-not-end}
-use Rattle.demands.proofs.Read.{Line, Lines, first, TakenSheet, taken-sheet}
+use Rattle.demands.proofs.Read.{Line, Lines, TakenSheet, taken-sheet}
 use Rattle.demands.proofs.Sources.{Source}
 use Rattle.demands.proofs.Standing.{standing, frame-placed}
 

@@ -11,9 +11,9 @@ use Rattle.framed.specs.Framed.{frameOf}
 use Rattle.plan.specs.Plan.{frameHolds, frameExcepts, planHeld, changesOf, offsetOf, planZone}
 use Rattle.sheet.specs.Form.{Form}
 use Rattle.sheet.specs.Meaning.{lineHolds, lineExcepts, sheetHeld, offsetOfLines, changesOfLines, sheetZone}
-use Rattle.sheet.specs.Refusals.{Context, contextAfter}
+use Rattle.sheet.specs.Refusals.{Context, contextAfter, first}
 use Rattle.zone.specs.Zone.{inWindow}
-use Rattle.demands.proofs.Read.{Lines, first, TakenSheet}
+use Rattle.demands.proofs.Read.{Lines, TakenSheet}
 
 -- what the frames of some lines say together
 record Mean (fs : List Form) : Type 0 where

@@ -12,8 +12,7 @@ use Rattle.compile.proofs.Compiling.{short}
 use Rattle.framed.proofs.Lines.{fine}
 use Rattle.lines.specs.Lines.{linesOf, linesIn}
 use Rattle.sheet.specs.Form.{Form, formOf}
-use Rattle.sheet.specs.Place.{start}
-use Rattle.sheet.specs.Refusals.{Context, contextAfter, bytesGood, formRefusal, formRefusalOr3, lineRefusal, Sheet, taken, refused, tooLong, readFrom, readSheet}
+use Rattle.sheet.specs.Refusals.{Context, contextAfter, bytesGood, formRefusal, formRefusalOr3, lineRefusal, Sheet, taken, refused, following, tooLong, readFrom, first, readSheet}
 
 -- a line with nothing wrong where it stands
 pub record Line (c : Context) (f : Form) : Type 0 where
@@ -53,11 +52,7 @@ module _ (n : ℕ) (c : Context) where
     no-form o true b = rw (b, o) (omega arith)
     no-form o false b = rw b (omega arith)
 
-    abbrev onRest : Form → Sheet → Sheet
-    onRest f (taken gs) = taken (f ∷ gs)
-    onRest f (refused k at) = refused k at
-
-    on-rest : (f : Form) (s : Sheet) → Line c f → Reads (n + 1) (contextAfter c f) more s → Reads n c (line ∷ more) (onRest f s)
+    on-rest : (f : Form) (s : Sheet) → Line c f → Reads (n + 1) (contextAfter c f) more s → Reads n c (line ∷ more) (following f s)
     on-rest f (taken gs) l r = record { each = (l, r .each); count = ap suc (r .count); one = omega arith }
     on-rest f (refused k at) l r = r
 
@@ -65,7 +60,7 @@ module _ (n : ℕ) (c : Context) where
     rest d = readFrom (n + 1) d more tail
 
     abbrev onTest : Form → Bool → Sheet
-    onTest f t = elim t [ true ↦ onRest f (rest (contextAfter c f)) | false ↦ refused (lineRefusal c line) (n + 1) ]
+    onTest f t = elim t [ true ↦ following f (rest (contextAfter c f)) | false ↦ refused (lineRefusal c line) (n + 1) ]
 
     on-test : (f : Form) (t : Bool) → formOf line ≡ some f → eqb (lineRefusal c line) 0 ≡ t → Reads (n + 1) (contextAfter c f) more (rest (contextAfter c f))
         → Reads n c (line ∷ more) (onTest f t)
@@ -82,10 +77,6 @@ reads : (whole : List (List ℕ)) (n : ℕ) (c : Context) (tail : List ℕ) → 
 unfolding readFrom
 reads [] n c tail = at-end n c (ltb 0 (length tail)) (eqb n 0) refl
 reads (line ∷ more) n c tail = on-form n c line more tail (formOf line) refl (λ d. reads more (n + 1) d tail)
-
--- before the first line
-abbrev pub first : Context
-first = record { before = start; low = 0; offset = 0 }
 
 -- a sheet that is taken has at least one line, at most 64, and nothing is wrong with any
 pub record TakenSheet (fs : List Form) : Type 0 where
@@ -108,7 +99,7 @@ module _ (text : List ℕ) where
   by-length : (t : Bool) → tooLong text ≡ t → Sound (elim t [ true ↦ refused 1 0 | false ↦ lines ])
   unfolding linesIn
   by-length true t = omega arith
-  by-length false t = sound (linesOf text .whole) lines (omega (arith, short text 0 t)) (reads (linesOf text .whole) 0 first (linesOf text .tail))
+  by-length false t = sound (linesOf text .whole) lines (omega (arith, short text t)) (reads (linesOf text .whole) 0 first (linesOf text .tail))
 
   sheet-sound : Sound (readSheet text)
   unfolding readSheet

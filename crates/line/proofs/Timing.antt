@@ -5,7 +5,6 @@ use mathlib.Core.Path.{_≡_, refl}
 use Prim.Native.Nat.{ℕ, _+_, _≤_}
 use native.Mathlib.Omega.{arith}
 use borrow.Author.Tests.{eq-eqb, ne-eqb}
-use lib.Dec.{eqb}
 use lib.ListN.{length, getD, drop}
 use Rattle.sheet.specs.Form.{Time, timeOf, Form}
 use Rattle.sheet.specs.Words.{pieces}

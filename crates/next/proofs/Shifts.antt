@@ -1,5 +1,5 @@
 -- One stretch searched: the minutes whose instants lie between two instants are those of a range.
-use mathlib.Core.Bool.{Bool, true, false, true≢false}
+use mathlib.Core.Bool.{Bool, false, true≢false}
 use mathlib.Core.List.{List}
 use mathlib.Core.Logic.{inr}
 use mathlib.Core.Path.{_≡_, sym, _∙_}

@@ -34,7 +34,7 @@ fresh-rows-requires : tie.Need-fresh-rows-requires
 fresh-rows-requires c κs = search needs
 
 read-requires : tie.Need-read-requires
-read-requires c κs = short (now (c .before .before .before .before .before .before .args .sheet)) 0 (sym (c .before .before .before .too-long .ensures) ∙ c .before .before .if1 .left)
+read-requires c κs = short (now (c .before .before .before .before .before .before .args .sheet)) (sym (c .before .before .before .too-long .ensures) ∙ c .before .before .if1 .left)
 
 enum-known-read : tie.Need-enum-known-read
 enum-known-read c = search needs
