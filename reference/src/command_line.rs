@@ -5,12 +5,15 @@ usage: reference compare SUITE [--seed S] [--times N] [--patience SECONDS] -- DR
        reference dump WHAT [--seed S] [--times N]
        reference dump meanings [--seed S] [--sheets N] [--plans N]
        reference answer
+       reference compile
 
   compare  sends the requests of SUITE (dates, zones, frames, lines, plans or sheets) to the driver and compares its
-           answers; a driver that sends no further answer for SECONDS (60 where none are given) is killed and has failed
+           answers; a driver that sends no further answer for SECONDS (60 where none are given) is killed and has failed.
+           Of the suite `program` the driver is the commissioning program, which is started for each sheet
   dump     prints WHAT (dates, rules, cron or zones) for the programs in peers/, or sheets and plans with
            their answers for tools/try-meanings
-  answer   is a driver itself: request lines on standard input, answer lines on standard output";
+  answer   is a driver itself: request lines on standard input, answer lines on standard output
+  compile  is the commissioning program itself: a sheet on standard input, its plan or its refusal on standard output";
 
 /// The seed where none is given, so that a run without one can be repeated.
 const DEFAULT_SEED: u64 = 1;
@@ -29,6 +32,7 @@ pub enum Command {
         options: Options,
     },
     Answer,
+    Compile,
 }
 
 /// `--times N` makes N times as many random cases; `--sheets N` and `--plans N` so many.
@@ -61,6 +65,7 @@ pub fn read(words: &[String]) -> Option<Command> {
             })
         }
         "answer" if rest.is_empty() => Some(Command::Answer),
+        "compile" if rest.is_empty() => Some(Command::Compile),
         _ => None,
     }
 }

@@ -85,8 +85,8 @@ fn wait_for_lines<Lines>(
     }
 }
 
-/// The exit status; none if the driver had to be killed for it.
-fn wait_for_end(child: &mut Child, patience: Duration) -> io::Result<Option<ExitStatus>> {
+/// The exit status; none if the child had to be killed for it.
+pub fn wait_for_end(child: &mut Child, patience: Duration) -> io::Result<Option<ExitStatus>> {
     let began = Instant::now();
     while began.elapsed() < patience {
         if let Some(status) = child.try_wait()? {

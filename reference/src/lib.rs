@@ -26,6 +26,7 @@ pub mod meaning;
 pub mod meanings;
 pub mod minutes;
 pub mod plan;
+pub mod program;
 pub mod random;
 pub mod searches;
 pub mod sheet;

@@ -3,9 +3,10 @@ use std::process::ExitCode;
 use std::time::Duration;
 
 use reference::command_line::{read, Command, Options, USAGE};
+use reference::sheet::MOST_BYTES;
 use reference::{
     answer, cases_dates, cases_frames, cases_lines, cases_plans, cases_sheets, cases_zones,
-    compare, dump, meanings,
+    compare, dump, meanings, program,
 };
 
 fn main() -> ExitCode {
@@ -18,6 +19,7 @@ fn main() -> ExitCode {
         }) => compare_suite(&suite, &options, &driver),
         Some(Command::Dump { what, options }) => dump_what(&what, &options),
         Some(Command::Answer) => answer_requests(),
+        Some(Command::Compile) => compile_sheet(),
         None => Err(io::Error::new(io::ErrorKind::InvalidInput, USAGE)),
     };
     match done {
@@ -34,20 +36,20 @@ fn unknown(what: &str) -> io::Error {
 }
 
 fn compare_suite(suite: &str, options: &Options, driver: &[String]) -> io::Result<ExitCode> {
-    let requests = match suite {
-        "dates" => cases_dates::requests(options.seed, options.times),
-        "frames" => cases_frames::requests(options.seed, options.times),
-        "lines" => cases_lines::requests(options.seed, options.times),
-        "plans" => cases_plans::requests(options.seed, options.times),
-        "sheets" => cases_sheets::requests(options.seed, options.times),
-        "zones" => cases_zones::requests(options.seed, options.times),
+    let (seed, times) = (options.seed, options.times);
+    let patience = Duration::from_secs(options.patience);
+    println!("suite {suite}, seed {seed}, times {times}");
+    let driven = |requests| compare::compare(driver, patience, requests);
+    let tally = match suite {
+        "dates" => driven(cases_dates::requests(seed, times)),
+        "frames" => driven(cases_frames::requests(seed, times)),
+        "lines" => driven(cases_lines::requests(seed, times)),
+        "plans" => driven(cases_plans::requests(seed, times)),
+        "program" => program::compare(driver, patience, program::cases::all(seed, times)),
+        "sheets" => driven(cases_sheets::requests(seed, times)),
+        "zones" => driven(cases_zones::requests(seed, times)),
         _ => return Err(unknown(suite)),
     };
-    println!(
-        "suite {suite}, seed {}, times {}",
-        options.seed, options.times
-    );
-    let tally = compare::compare(driver, Duration::from_secs(options.patience), requests);
     println!(
         "compared {} answers, {} differ",
         tally.compared, tally.differ
@@ -83,4 +85,27 @@ fn answer_requests() -> io::Result<ExitCode> {
     }
     out.flush()?;
     Ok(ExitCode::SUCCESS)
+}
+
+/// The reference as the commissioning program. Where a read fails nothing is written; that nothing can be written is not said.
+fn compile_sheet() -> io::Result<ExitCode> {
+    if let Ok(sheet) = read_sheet(io::stdin().lock()) {
+        let _ = io::stdout().write_all(program::written(&sheet).as_bytes());
+    }
+    Ok(ExitCode::SUCCESS)
+}
+
+/// What comes up to the end, or enough to be too long.
+fn read_sheet(mut input: impl BufRead) -> io::Result<Vec<u8>> {
+    let mut sheet = Vec::new();
+    while sheet.len() <= MOST_BYTES {
+        let part = input.fill_buf()?;
+        let length = part.len();
+        if length == 0 {
+            break;
+        }
+        sheet.extend_from_slice(part);
+        input.consume(length);
+    }
+    Ok(sheet)
 }
