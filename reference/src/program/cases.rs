@@ -15,14 +15,7 @@ const ROUNDS: u64 = 2;
 const STEP: usize = 8;
 
 /// Lengths at which a sort of sheets begins: about the most, some 20,000, and more than a pipe takes.
-const LENGTHS: [usize; 6] = [
-    MOST_BYTES - 1,
-    MOST_BYTES,
-    MOST_BYTES + 1,
-    MOST_BYTES + 2,
-    19_999,
-    65_537,
-];
+const LENGTHS: [usize; 5] = [MOST_BYTES - 1, MOST_BYTES, MOST_BYTES + 1, 19_999, 65_537];
 
 /// Numbers of lines at which a sort begins.
 const LINES: [usize; 3] = [1, 64, 65];
