@@ -1,11 +1,11 @@
 -- The inside's answer, asked of the asked instant moved up, is the answer over signed numbers.
-use mathlib.Core.Bool.{true}
-use mathlib.Core.List.{List}
+use mathlib.Core.Bool.{Bool, true, false, cond}
+use mathlib.Core.List.{List, [], _∷_}
 use mathlib.Core.Path.{_≡_, refl, sym, ap, _∙_}
-use Prim.Native.Nat.{ℕ, _<_}
+use Prim.Native.Nat.{ℕ, _+_, _<_}
 use native.Mathlib.Omega.{arith}
-use borrow.Author.Tests.{ltb-true, lt-ltb}
-use lib.Dec.{ltb}
+use borrow.Author.Tests.{ltb-true, lt-ltb, le-ltb}
+use lib.Dec.{T, leb, ltb}
 use lib.IntN.{ℤ, pos, negsuc}
 use lib.Signed.{ltZ}
 use Rattle.compile.specs.Answers.{compiledAs}
@@ -13,19 +13,21 @@ use Rattle.compile.specs.Compiled.{Compiled, plan as made, refusal}
 use Rattle.load.specs.Loads.{loadedAs}
 use Rattle.next.proofs.Ready.{taken-good, plan-instants-range}
 use Rattle.next.specs.Instants.{Next, Previous, NextOf, PreviousOf}
-use Rattle.next.specs.Plans.{AnswerBy, NextIn, PreviousIn, answerOf, foundOf, localIn, localOf, localBy as localInside}
+use Rattle.next.specs.Plans.{AnswerBy, NextIn, PreviousIn, answerOf, foundOf, localIn, localOf, localBy as localInside, offsetIn, offsetBy as offsetInside}
 use Rattle.next.specs.declared.Answer.{Answer}
 use Rattle.plan.specs.Plan.{PlanInstant, planZone}
 use Rattle.plan.specs.Taken.{Loaded, taken, refused, load, loadedNumber, loadedLine}
 use Rattle.plan.specs.declared.Frame.{Frame}
 use Rattle.signed.specs.Bias.{biasInstant, unbiasInstant}
+use Rattle.zone.proofs.Good.{good-head, good-zone, offset-range}
 use Rattle.zone.specs.Stretches.{instantOfLocal}
-use Rattle.zone.specs.Zone.{zoneGood}
+use Rattle.zone.specs.Zone.{offsetFrom, offsetAt, transitionsGood, zoneGood}
+use Rattle.zone.specs.declared.Transition.{Transition}
 use Rattle.zone.specs.declared.stretch.Instant.{Instant}
 use Rattle.evandrusk.specs.Sheets.{compiledFor, compileAnswer}
-use Rattle.evandrusk.specs.Plans.{Nearest, NearestBy, NextAnswer, PreviousAnswer, SignedInstant, answerAs, checkAnswer, checkedAs, later, localAnswer, localAs, localBy, localFound, minuteOf}
+use Rattle.evandrusk.specs.Plans.{Nearest, NearestBy, NextAnswer, PreviousAnswer, SignedInstant, answerAs, checkAnswer, checkedAs, later, localAnswer, localAs, localBy, localFound, minuteOf, offsetAnswer, offsetAs, offsetBy, offsetWith, movedDown, signedOffset}
 use Rattle.evandrusk.specs.Plans.NearestFound.{found, none}
-use Rattle.evandrusk.proofs.Orders.{signed-earlier, signed-later, signed-order}
+use Rattle.evandrusk.proofs.Orders.{signed-earlier, signed-later, signed-order, signed-until}
 
 module _ (fs : List Frame) (good : zoneGood (planZone fs) ≡ true) where
   -- the asked instant against one of the plan, and two of the plan: that the asked one is held to a day around the window does not show
@@ -111,6 +113,38 @@ local-by (refused k) z = refl
 pub local-edge : (plan : List ℕ) (z : ℤ) → localAs (localIn plan (minuteOf z)) ≡ localAnswer plan z
 unfolding localIn localAnswer
 local-edge plan z = local-by (load plan) z
+
+-- the offset at an instant: no transition lies outside the window, so that the asked instant is held to a day around it does not show
+signed-offset : (z : ℤ) (low before offset : ℕ) (ts : List Transition) → T (transitionsGood low before ts)
+    → signedOffset (movedDown offset) ts z ≡ movedDown (offsetFrom offset ts (biasInstant z))
+unfolding signedOffset offsetFrom
+signed-offset z low before offset [] g = refl
+signed-offset z low before offset (t ∷ ts) g =
+    let h = good-head low before t ts g in
+    ap (λ (b : Bool). signedOffset (cond b (movedDown (t .offset)) (movedDown offset)) ts z)
+    (signed-until z (t .at) (omega (arith, h .instant .from)) (omega (arith, h .instant .upto)))
+    ∙ by-test (leb (t .at) (biasInstant z)) (λ o. signed-offset z (t .at + 2880) (t .offset) o ts (h .rest))
+  where
+    by-test : (b : Bool) → ((o : ℕ) → signedOffset (movedDown o) ts z ≡ movedDown (offsetFrom o ts (biasInstant z)))
+        → signedOffset (cond b (movedDown (t .offset)) (movedDown offset)) ts z ≡ movedDown (offsetFrom (cond b (t .offset) offset) ts (biasInstant z))
+    by-test true rest = rest (t .offset)
+    by-test false rest = rest offset
+
+offset-by : (l : Loaded) → ((fs : List Frame) → l ≡ taken fs → zoneGood (planZone fs) ≡ true) → (z : ℤ)
+    → offsetAs (offsetInside l (biasInstant z)) ≡ offsetBy l z
+unfolding offsetInside offsetBy offsetAt unbiasInstant
+offset-by (taken fs) good z =
+    let g = good-zone (planZone fs) (good fs refl) in
+    let o = planZone fs .first in
+    let ts = planZone fs .changes in
+    let b = offset-range 0 o ts (biasInstant z) (g .range) (g .changes) in
+    ap (offsetWith 0 0)
+    (simp (le-ltb 52598880 (offsetFrom o ts (biasInstant z)) (omega (arith, b .upto))) (sym (signed-offset z 0 o o ts (g .changes))))
+offset-by (refused k) good z = refl
+
+pub offset-edge : (plan : List ℕ) (z : ℤ) → offsetAs (offsetIn plan (biasInstant z)) ≡ offsetAnswer plan z
+unfolding offsetIn offsetAnswer
+offset-edge plan z = offset-by (load plan) (taken-good plan) z
 
 -- the load check
 pub check-edge : (plan : List ℕ) → checkedAs (loadedAs (load plan)) ≡ checkAnswer plan

@@ -3,14 +3,14 @@ use mathlib.Core.Bool.{true, false, true≢false}
 use mathlib.Core.Path.{_≡_, refl, sym, ap, _∙_}
 use Prim.Native.Nat.{ℕ, _+_, _-_, _<_, _≤_, min}
 use native.Mathlib.Omega.{arith}
-use borrow.Author.Tests.{ltb-true, ltb-false, lt-ltb, le-ltb}
-use lib.Dec.{ltb}
+use borrow.Author.Tests.{ltb-true, ltb-false, lt-ltb, le-ltb, le-leb, lt-leb}
+use lib.Dec.{leb, ltb}
 use lib.IntN.{ℤ, pos, negsuc}
-use lib.Signed.{ltZ}
+use lib.Signed.{ltZ, leZ}
 use Rattle.signed.proofs.Laws.{bias-of-unbias-instant}
 use Rattle.signed.specs.Bias.{naturalOf, biasInstant, unbiasInstant}
 use Rattle.zone.proofs.Good.{by-order}
-use Rattle.evandrusk.specs.Plans.{minuteOf}
+use Rattle.evandrusk.specs.Plans.{minuteOf, movedDown}
 
 -- two tests of the same outcome
 same-test : (a b c d : ℕ) → (a < b → c < d) → (b ≤ a → d ≤ c) → ltb a b ≡ ltb c d
@@ -58,6 +58,14 @@ signed-earlier (negsuc n) i l h =
 -- two instants within the bounds are in order exactly if they are so inside
 pub signed-order : (i j : ℕ) → 0 < i → i < 52598880 → j ≤ 52598880 → ltZ (unbiasInstant i) (unbiasInstant j) ≡ ltb i j
 signed-order i j l h g = signed-earlier (unbiasInstant j) i l h ∙ rw (bias-of-unbias-instant j g)
+
+-- an instant of the window is at or before the asked one exactly if it is so inside
+pub signed-until : (z : ℤ) (i : ℕ) → 1440 ≤ i → i < 52597440 → leZ (movedDown i) z ≡ leb i (biasInstant z)
+signed-until (pos n) i l h =
+    by-order (min n 52597440 + 1440) i
+    (λ s. rw (le-ltb i 1440 l, bias-up n) (lt-leb (i - 1440) n (omega arith) ∙ sym (lt-leb i (min n 52597440 + 1440) s)))
+    (λ s. rw (le-ltb i 1440 l, bias-up n) (le-leb (i - 1440) n (omega arith) ∙ sym (le-leb i (min n 52597440 + 1440) s)))
+signed-until (negsuc n) i l h = rw (le-ltb i 1440 l, bias-down n) (sym (lt-leb i (1439 - n) (omega arith)))
 
 -- two signed numbers of which neither is below the other are equal
 pub neither-below : (a b : ℤ) → ltZ a b ≡ false → ltZ b a ≡ false → a ≡ b

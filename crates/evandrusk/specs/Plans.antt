@@ -1,23 +1,27 @@
 -- What C is answered of a plan, by the signed instants and local minutes that it hands in: "Next and previous: 10, then 11. A local minute
--- mapped by a plan's zone: 10, then 5. A refusal answers its number, its line or 0, and zeros for every other number."
-use mathlib.Core.Bool.{Bool, true}
-use mathlib.Core.List.{List}
+-- mapped by a plan's zone: 10, then 5. A refusal answers its number, its line or 0, and zeros for every other number." The offset at an instant: 10.
+use mathlib.Core.Bool.{Bool, true, cond}
+use mathlib.Core.List.{List, [], _∷_}
 use mathlib.Core.Path.{_≡_}
 use Prim.Native.Nat.{ℕ}
-use lib.IntN.{ℤ, pos, negsuc}
-use lib.Signed.{ltZ}
+use lib.IntN.{ℤ, pos, negsuc, subℕ}
+use lib.Signed.{ltZ, leZ}
 use Rattle.load.specs.declared.Loaded.{Loaded as Load}
 use Rattle.next.specs.declared.Answer.{Answer}
 use Rattle.next.specs.declared.Local.{Local}
+use Rattle.next.specs.declared.Offset.{Offset}
 use Rattle.plan.specs.Plan.{PlanInstant, planZone}
 use Rattle.plan.specs.Taken.{Loaded, taken, refused, load, loadedNumber, loadedLine}
 use Rattle.plan.specs.declared.Frame.{Frame}
 use Rattle.signed.specs.Bias.{unbiasInstant}
 use Rattle.zone.specs.Stretches.{instantOfLocal}
+use Rattle.zone.specs.Zone.{bias}
+use Rattle.zone.specs.declared.Transition.{Transition}
 use Rattle.zone.specs.declared.stretch.Instant.{Instant}
 use Rattle.calendar.specs.Window.{windowMinutes}
 use Rattle.evandrusk.specs.declared.answers.EvkChecked.{EvkChecked}
 use Rattle.evandrusk.specs.declared.answers.EvkFound.{EvkFound}
+use Rattle.evandrusk.specs.declared.answers.EvkOffset.{EvkOffset}
 
 -- the load check: 0, or 10 with the line
 unfoldable pub checkAnswer : List ℕ → EvkChecked
@@ -92,3 +96,27 @@ minuteOf (negsuc n) = windowMinutes
 
 unfoldable pub localAnswer : List ℕ → ℤ → EvkFound
 localAnswer plan z = localBy (load plan) z
+
+-- an instant or an offset of a zone as C has it: moved down by a day
+abbrev pub movedDown : ℕ → ℤ
+movedDown n = subℕ n bias
+
+-- "The offset at an instant is that of the last transition at or before it, else Z's", at any signed instant
+unfoldable pub signedOffset : ℤ → List Transition → ℤ → ℤ
+signedOffset offset [] z = offset
+signedOffset offset (t ∷ ts) z = signedOffset (cond (leZ (movedDown (t .at)) z) (movedDown (t .offset)) offset) ts z
+
+-- an offset is answered with 0, and a refusal with its number and line
+abbrev pub offsetWith : ℕ → ℕ → ℤ → EvkOffset
+offsetWith number line z = record { number = number; line = line; offset = z }
+
+abbrev pub offsetAs : Offset → EvkOffset
+offsetAs (Offset.Is o) = offsetWith 0 0 (unbiasInstant o)
+offsetAs (Offset.Refused k) = offsetWith 10 k (pos 0)
+
+unfoldable pub offsetBy : Loaded → ℤ → EvkOffset
+offsetBy (taken fs) z = offsetWith 0 0 (signedOffset (movedDown (planZone fs .first)) (planZone fs .changes) z)
+offsetBy (refused k) z = offsetWith 10 k (pos 0)
+
+unfoldable pub offsetAnswer : List ℕ → ℤ → EvkOffset
+offsetAnswer plan z = offsetBy (load plan) z

@@ -3,7 +3,7 @@ ghost use mathlib.Core.Path.{_≡_};
 ghost use Rattle.signed.specs.Bias.{unbiasInstant};
 ghost use Rattle.evandrusk.specs.Answers.{dayAnswer, dateAnswer, isoAnswer};
 ghost use Rattle.evandrusk.specs.Sheets.{compiledFor};
-ghost use Rattle.evandrusk.specs.Plans.{checkedAs, answerAs, localAs, foundAt, refusedAs, minuteOf};
+ghost use Rattle.evandrusk.specs.Plans.{checkedAs, answerAs, localAs, offsetAs, offsetWith, foundAt, refusedAs, minuteOf};
 use calendar::date::Dated;
 use calendar::date::Day;
 use calendar::iso::IsoDated;
@@ -12,6 +12,7 @@ use compile::Compiled;
 use load::Loaded;
 use next::Answer;
 use next::Local;
+use next::Offset;
 
 #[repr(C)]
 pub struct EvkDay {
@@ -46,6 +47,13 @@ pub struct EvkFound {
     pub number: u64,
     pub line: u64,
     pub instant: i64,
+}
+
+#[repr(C)]
+pub struct EvkOffset {
+    pub number: u64,
+    pub line: u64,
+    pub offset: i64,
 }
 
 #[repr(C)]
@@ -178,6 +186,26 @@ pub(crate) fn local(answer: Local) -> EvkFound
         Local::Is(i) => at(i),
         Local::Outside => refused(5, 0),
         Local::Refused(line) => refused(10, line),
+    }
+}
+
+fn offset_with(number: u64, line: usize, offset: i64) -> EvkOffset
+    ensures { λ r. ⌜ r ≡ offsetWith number line offset ⌝ }
+{
+    EvkOffset {
+        number,
+        line: line as u64,
+        offset,
+    }
+}
+
+// An offset is moved up by a day, as an instant is.
+pub(crate) fn offset(answer: Offset) -> EvkOffset
+    ensures { λ r. ⌜ r ≡ offsetAs answer ⌝ }
+{
+    match answer {
+        Offset::Is(minutes) => offset_with(0, 0, signed::unbias_instant(minutes)),
+        Offset::Refused(line) => offset_with(10, line, 0),
     }
 }
 

@@ -4,7 +4,7 @@ ghost use lib.ListN.{length};
 ghost use Rattle.compile.specs.Answers.{leftIn};
 ghost use Rattle.compile.specs.Compiled.{compile as compileOf};
 ghost use Rattle.evandrusk.specs.Answers.{dayOfDateAnswer, dateOfDayAnswer, isoOfDayAnswer, dayOfIsoAnswer};
-ghost use Rattle.evandrusk.specs.Plans.{checkAnswer, NextAnswer, PreviousAnswer, localAnswer};
+ghost use Rattle.evandrusk.specs.Plans.{checkAnswer, NextAnswer, PreviousAnswer, localAnswer, offsetAnswer};
 ghost use Rattle.evandrusk.specs.Sheets.{compileAnswer};
 use answers::EvkChecked;
 use answers::EvkCompiled;
@@ -12,6 +12,7 @@ use answers::EvkDate;
 use answers::EvkDay;
 use answers::EvkFound;
 use answers::EvkIso;
+use answers::EvkOffset;
 use calendar::date;
 use calendar::iso;
 
@@ -89,4 +90,11 @@ pub extern "C" fn evk_instant_of_local(plan: &[u8], local_minute: i64) -> EvkFou
     ensures { λ r. ⌜ r ≡ localAnswer (now (plan .entry)) «local_minute» ⌝ }
 {
     answers::local(next::instant_of_local(plan, answers::minute_of(local_minute)))
+}
+
+#[no_mangle]
+pub extern "C" fn evk_offset_at(plan: &[u8], instant: i64) -> EvkOffset
+    ensures { λ r. ⌜ r ≡ offsetAnswer (now (plan .entry)) instant ⌝ }
+{
+    answers::offset(next::offset_at(plan, signed::bias_instant(instant)))
 }

@@ -19,9 +19,9 @@ use Rattle.zone.proofs.Good.{Within}
 use Rattle.zone.proofs.Stretches.{instants-range}
 use Rattle.zone.specs.Held.{offsetsOf}
 use Rattle.zone.specs.Stretches.{instantOfLocal}
-use Rattle.zone.specs.Zone.{Offsets, zoneGood}
+use Rattle.zone.specs.Zone.{Offsets, offsetAt, zoneGood}
 use Rattle.next.specs.Instants.{InstantOf}
-use Rattle.next.specs.Plans.{AnswerBy, RightOf, AskedIn, answerOf, foundOf, localOf, localBy, localIn}
+use Rattle.next.specs.Plans.{AnswerBy, RightOf, AskedIn, answerOf, foundOf, localOf, localBy, localIn, offsetOf, offsetBy, offsetIn}
 use Rattle.next.specs.declared.Answer.{Answer}
 use Rattle.next.specs.declared.Ask.{Ask}
 use Rattle.next.specs.declared.Found.{Found}
@@ -84,6 +84,7 @@ unfolding RightOf
 right-same p q to back z (Ask.Next i) f a = next-same p q to back i f a
 right-same p q to back z (Ask.Previous i) f a = previous-same p q to back i f a
 right-same p q to back z (Ask.Local m) f a = a
+right-same p q to back z (Ask.Offset i) f a = a
 
 module _ (plan : List ℕ) (rows : List (List ℕ)) (count : ℕ) (r : Ready plan rows count) where
   -- the zone of the rows keeps the limits
@@ -101,16 +102,25 @@ module _ (plan : List ℕ) (rows : List (List ℕ)) (count : ℕ) (r : Ready pla
       (answer-found (λ (fs : List Frame). RightOf (PlanInstant fs) (planZone fs) ask) fs f
       (right-same _ (PlanInstant fs) (plan-of-row fs) (row-of-plan fs) (planZone fs) ask f (rw (r .zone, r .held) at a)))
 
--- the answer to a local minute
+-- what is asked has one right answer, in the form that its function answers
+module _ {X : Type 0} (of : Answer → X) (found : List Frame → Found) (by : Load → X)
+    (is-taken : (fs : List Frame) → of (answerOf (found fs)) ≡ by (taken fs)) (is-refused : (k : ℕ) → of (Answer.Refused k) ≡ by (refused k)) where
+  one-answer : (l : Load) (a : Answer) → AnswerBy (λ (fs : List Frame) (r : Found). r ≡ found fs) l a → of a ≡ by l
+  unfolding AnswerBy
+  one-answer (taken fs) (Answer.Is i) e = ap (λ (f : Found). of (answerOf f)) e ∙ is-taken fs
+  one-answer (taken fs) Answer.Never e = ap (λ (f : Found). of (answerOf f)) e ∙ is-taken fs
+  one-answer (taken fs) (Answer.Refused k) e = absurd e
+  one-answer (refused k) a e = ap of e ∙ is-refused k
+
 pub local-answer : (plan : List ℕ) (m : ℕ) (a : Answer) → AskedIn plan (Ask.Local m) a → localOf a ≡ localIn plan m
-unfolding AskedIn RightOf AnswerBy localIn localBy
-local-answer plan m a = by-load (load plan) a
-  where
-    by-load : (o : Load) (a : Answer) → AnswerBy (λ (fs : List Frame) (r : Found). r ≡ foundOf (instantOfLocal (planZone fs) m)) o a → localOf a ≡ localBy o m
-    by-load (taken fs) (Answer.Is i) e = ap (λ (f : Found). localOf (answerOf f)) e
-    by-load (taken fs) Answer.Never e = ap (λ (f : Found). localOf (answerOf f)) e
-    by-load (taken fs) (Answer.Refused k) e = absurd e
-    by-load (refused k) a e = ap localOf e
+unfolding AskedIn RightOf localIn localBy
+local-answer plan m a =
+    one-answer localOf (λ fs. foundOf (instantOfLocal (planZone fs) m)) (λ l. localBy l m) (λ fs. refl) (λ k. refl) (load plan) a
+
+pub offset-answer : (plan : List ℕ) (i : ℕ) (a : Answer) → AskedIn plan (Ask.Offset i) a → offsetOf a ≡ offsetIn plan i
+unfolding AskedIn RightOf offsetIn offsetBy
+offset-answer plan i a =
+    one-answer offsetOf (λ fs. Found.Is (offsetAt (planZone fs) i)) (λ l. offsetBy l i) (λ fs. refl) (λ k. refl) (load plan) a
 
 -- a plan that is taken has a good zone, so its instants lie within a day of the window
 pub taken-good : (plan : List ℕ) (fs : List Frame) → load plan ≡ taken fs → zoneGood (planZone fs) ≡ true

@@ -1,4 +1,4 @@
--- What a plan's text is asked: "Next and previous: 10, then 11. A local minute mapped by a plan's zone: 10, then 5."
+-- What a plan's text is asked: "Next and previous: 10, then 11. A local minute mapped by a plan's zone: 10, then 5." The offset at an instant: 10.
 use mathlib.Core.List.{List}
 use mathlib.Core.Path.{_≡_}
 use Prim.Native.Nat.{ℕ}
@@ -6,13 +6,14 @@ use Rattle.plan.specs.Plan.{PlanInstant, planZone}
 use Rattle.plan.specs.Taken.{Loaded, taken, refused, load}
 use Rattle.plan.specs.declared.Frame.{Frame}
 use Rattle.zone.specs.Stretches.{instantOfLocal}
-use Rattle.zone.specs.Zone.{Offsets}
+use Rattle.zone.specs.Zone.{Offsets, offsetAt}
 use Rattle.zone.specs.declared.stretch.Instant.{Instant}
 use Rattle.next.specs.Instants.{NextOf, PreviousOf}
 use Rattle.next.specs.declared.Answer.{Answer}
 use Rattle.next.specs.declared.Ask.{Ask}
 use Rattle.next.specs.declared.Found.{Found}
 use Rattle.next.specs.declared.Local.{Local}
+use Rattle.next.specs.declared.Offset.{Offset}
 
 -- the answer where the plan is taken
 abbrev pub answerOf : Found → Answer
@@ -29,6 +30,12 @@ localOf (Answer.Is i) = Local.Is i
 localOf Answer.Never = Local.Outside
 localOf (Answer.Refused k) = Local.Refused k
 
+-- an offset that is found as the answer to it; there always is one
+abbrev pub offsetOf : Answer → Offset
+offsetOf (Answer.Is o) = Offset.Is o
+offsetOf Answer.Never = Offset.Refused 0
+offsetOf (Answer.Refused k) = Offset.Refused k
+
 -- 10 with the line where the plan is not taken; else what is right of its frames
 unfoldable pub AnswerBy : (List Frame → Found → Type 0) → Loaded → Answer → Type 0
 AnswerBy right (taken fs) (Answer.Is i) = right fs (Found.Is i)
@@ -41,6 +48,7 @@ unfoldable pub RightOf : (ℕ → Type 0) → Offsets → Ask → Found → Type
 RightOf instants z (Ask.Next i) r = NextOf instants i r
 RightOf instants z (Ask.Previous i) r = PreviousOf instants i r
 RightOf instants z (Ask.Local m) r = r ≡ foundOf (instantOfLocal z m)
+RightOf instants z (Ask.Offset i) r = r ≡ Found.Is (offsetAt z i)
 
 unfoldable pub AskedIn : List ℕ → Ask → Answer → Type 0
 AskedIn plan ask r = AnswerBy (λ (fs : List Frame). RightOf (PlanInstant fs) (planZone fs) ask) (load plan) r
@@ -60,3 +68,11 @@ localBy (refused k) m = Local.Refused k
 
 unfoldable pub localIn : List ℕ → ℕ → Local
 localIn plan m = localBy (load plan) m
+
+-- the offset at an instant by the plan's zone
+unfoldable pub offsetBy : Loaded → ℕ → Offset
+offsetBy (taken fs) i = Offset.Is (offsetAt (planZone fs) i)
+offsetBy (refused k) i = Offset.Refused k
+
+unfoldable pub offsetIn : List ℕ → ℕ → Offset
+offsetIn plan i = offsetBy (load plan) i

@@ -1,4 +1,4 @@
-// Next and previous of a plan, and the instant of a local minute by its zone.
+// Next and previous of a plan, and the instant of a local minute and the offset at an instant by its zone.
 ghost use mathlib.Core.Bool.{true};
 ghost use mathlib.Core.Path.{_≡_};
 ghost use Rattle.held.specs.Lists.{listHeld, firstOf};
@@ -6,7 +6,7 @@ ghost use Rattle.load.specs.Zones.{zoneOf};
 ghost use Rattle.zone.specs.Held.{offsetsOf};
 ghost use Rattle.zone.specs.Zone.{zoneGood};
 ghost use Rattle.next.specs.Instants.{InstantOf};
-ghost use Rattle.next.specs.Plans.{RightOf, AskedIn, NextIn, PreviousIn, answerOf, foundOf, localOf, localIn};
+ghost use Rattle.next.specs.Plans.{RightOf, AskedIn, NextIn, PreviousIn, answerOf, foundOf, localOf, localIn, offsetOf, offsetIn};
 use frames::places::Rows;
 use frames::places::fresh_rows;
 use instants::next_found;
@@ -19,14 +19,15 @@ use zone::stretch::Instant;
 mod instants;
 mod stretches;
 
-// What a plan is asked: its next or previous instant, or the instant of a local minute.
+// What a plan is asked: its next or previous instant, the instant of a local minute, or the offset at an instant.
 pub(crate) enum Ask {
     Next(u64),
     Previous(u64),
     Local(u64),
+    Offset(u64),
 }
 
-// The instant that is asked for, or that there is none.
+// The instant or the offset that is asked for, or that there is none.
 pub enum Found {
     Is(u64),
     Never,
@@ -43,6 +44,12 @@ pub enum Answer {
 pub enum Local {
     Is(u64),
     Outside,
+    Refused(usize),
+}
+
+// The offset at an instant, or that line.
+pub enum Offset {
+    Is(u64),
     Refused(usize),
 }
 
@@ -74,6 +81,17 @@ fn local_of(answer: Answer) -> Local
     }
 }
 
+fn offset_of(answer: Answer) -> Offset
+    ensures { λ r. ⌜ r ≡ offsetOf answer ⌝ }
+{
+    match answer {
+        Answer::Is(offset) => Offset::Is(offset),
+        // There is an offset at every instant.
+        Answer::Never => Offset::Refused(0),
+        Answer::Refused(line) => Offset::Refused(line),
+    }
+}
+
 // What the rows of a taken plan answer.
 fn in_rows(rows: &Rows, count: usize, ask: Ask) -> Found
     requires { ⌜ zoneGood (offsetsOf (zoneOf (now rows) count)) ≡ true ⌝ }
@@ -84,6 +102,7 @@ fn in_rows(rows: &Rows, count: usize, ask: Ask) -> Found
         Ask::Next(asked) => next_found(rows, count, zone, asked),
         Ask::Previous(asked) => previous_found(rows, count, zone, asked),
         Ask::Local(m) => found_of(stretch::instant_of_local(zone, m)),
+        Ask::Offset(i) => Found::Is(zone::offset_at(zone, i)),
     }
 }
 
@@ -117,4 +136,11 @@ pub fn instant_of_local(plan: &[u8], m: u64) -> Local
     ensures { λ r. ⌜ r ≡ localIn (now (plan .entry)) m ⌝ }
 {
     local_of(in_plan(plan, Ask::Local(m)))
+}
+
+// The offset at an instant by the plan's zone.
+pub fn offset_at(plan: &[u8], asked: u64) -> Offset
+    ensures { λ r. ⌜ r ≡ offsetIn (now (plan .entry)) asked ⌝ }
+{
+    offset_of(in_plan(plan, Ask::Offset(asked)))
 }

@@ -4,6 +4,7 @@ use mathlib.Core.Path.{_≡_, ap, _∙_}
 use Rattle.zone.specs.Held.{offsetsOf}
 use Rattle.zone.specs.Zone.{zoneGood}
 use Rattle.next.specs.Plans.{RightOf, foundOf}
+use Rattle.next.specs.declared.Found.{Found}
 use borrow.Author.Needs.{needs}
 use Rattle.next.proofs.in_rows.Statement.{statement}
 use Rattle.next.proofs.in_rows.Tie as tie
@@ -32,6 +33,12 @@ instant-of-local-requires c κs = search needs
 found-of-requires : tie.Need-found-of-requires
 found-of-requires c κs = search needs
 
+enum-known-ask-4 : tie.Need-enum-known-ask-4
+enum-known-ask-4 c = search needs
+
+offset-at-requires : tie.Need-offset-at-requires
+offset-at-requires c κs = search needs
+
 returns : tie.Need-returns
 unfolding RightOf
 returns c = rw (c .before .before .ask .given .1, ← c .before .before .before .before .zone-of .ensures) (c .next-found .ensures)
@@ -48,6 +55,10 @@ returns-3 c =
     rw (c .before .before .before .ask3 .given .1, ← t .zone-of .ensures)
     (c .found-of .ensures ∙ ap foundOf (c .before .instant-of-local .ensures .1 g))
 
+returns-4 : tie.Need-returns-4
+unfolding RightOf
+returns-4 c = rw (c .before .before .ask4 .given .1, ← c .before .before .before .before .zone-of .ensures) (ap Found.Is (c .offset-at .ensures))
+
 pub in-rows-spec : {M : Type 1} → statement M
 in-rows-spec =
     tie.close
@@ -60,6 +71,9 @@ in-rows-spec =
     enum-known-ask-3
     instant-of-local-requires
     found-of-requires
+    enum-known-ask-4
+    offset-at-requires
     returns
     returns-2
-    returns-3)
+    returns-3
+    returns-4)
