@@ -108,4 +108,5 @@ def main():
     return 0 if differ == 0 and lines > 0 else 1
 
 
-sys.exit(main())
+if __name__ == "__main__":
+    sys.exit(main())

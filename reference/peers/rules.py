@@ -34,10 +34,10 @@ def weekdays(text):
     return found
 
 
-def occurrences(line):
+def occurrences(line, week_start=rrule.MO):
     """The rule's times by dateutil."""
     _, start, parts = line.split(" ")
-    options = {"dtstart": time(start), "wkst": rrule.MO}
+    options = {"dtstart": time(start), "wkst": week_start}
     for part in parts.split(";"):
         name, value = part.split("=")
         if name == "FREQ":
@@ -70,4 +70,5 @@ def main():
     return 0 if differ == 0 and rules > 0 else 1
 
 
-sys.exit(main())
+if __name__ == "__main__":
+    sys.exit(main())

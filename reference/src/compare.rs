@@ -1,5 +1,6 @@
 //! The comparison: every request's wanted answer against the driver's, field for field as a line.
 
+use std::io;
 use std::sync::Arc;
 use std::time::Duration;
 
@@ -62,6 +63,36 @@ impl Tally {
             self.show(&request, &at(&wanted), &at(&got));
         }
     }
+
+    /// The driver's answers to the requests of a batch and those that are wanted; whether there were answers. The end of the
+    /// driver comes first: it may say why answers are missing.
+    pub fn batch(
+        &mut self,
+        answers: io::Result<Answers>,
+        wanted: impl Iterator<Item = (impl AsRef<str>, impl AsRef<str>)>,
+    ) -> bool {
+        let answers = match answers {
+            Ok(answers) => answers,
+            Err(error) => {
+                let wanted = "all answers, and its end";
+                self.difference("(the driver)", wanted, &error.to_string());
+                return false;
+            }
+        };
+        if !answers.status.success() {
+            let ended = answers.status.to_string();
+            self.difference("(end of the driver)", "exit status: 0", &ended);
+        }
+        let mut lines = answers.lines.iter();
+        for (request, wanted) in wanted {
+            let got = lines.next().map_or("(no answer)", String::as_str);
+            self.line(request.as_ref(), wanted.as_ref(), got);
+        }
+        for line in lines {
+            self.difference("(after the last request)", "(no answer)", line);
+        }
+        true
+    }
 }
 
 /// Sends all requests to the driver, batch by batch, and tallies the answers. A driver that does not start, or
@@ -77,33 +108,12 @@ pub fn compare(
         if batch.is_empty() {
             return tally;
         }
-        match ask(words, &batch, patience) {
-            Ok(answers) => compare_batch(&mut tally, &batch, &answers),
-            Err(error) => {
-                tally.difference(
-                    "(the driver)",
-                    "all answers, and its end",
-                    &error.to_string(),
-                );
-                return tally;
-            }
+        let wanted = |request: &String| {
+            answer(request).unwrap_or_else(|| "(no request of the protocol)".to_string())
+        };
+        let wanted = batch.iter().map(|request| (request, wanted(request)));
+        if !tally.batch(ask(words, &batch, patience), wanted) {
+            return tally;
         }
-    }
-}
-
-/// The end of the driver comes first: it may say why answers are missing.
-fn compare_batch(tally: &mut Tally, batch: &[String], answers: &Answers) {
-    if !answers.status.success() {
-        let ended = answers.status.to_string();
-        tally.difference("(end of the driver)", "exit status: 0", &ended);
-    }
-    let mut lines = answers.lines.iter();
-    for request in batch {
-        let wanted = answer(request).unwrap_or_else(|| "(no request of the protocol)".to_string());
-        let got = lines.next().map_or("(no answer)", String::as_str);
-        tally.line(request, &wanted, got);
-    }
-    for line in lines {
-        tally.difference("(after the last request)", "(no answer)", line);
     }
 }

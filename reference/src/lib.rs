@@ -31,4 +31,5 @@ pub mod random;
 pub mod searches;
 pub mod sheet;
 pub mod shown;
+pub mod tables;
 pub mod zone;

@@ -6,7 +6,7 @@ use reference::command_line::{read, Command, Options, USAGE};
 use reference::sheet::MOST_BYTES;
 use reference::{
     answer, cases_dates, cases_frames, cases_lines, cases_plans, cases_sheets, cases_zones,
-    compare, dump, meanings, program,
+    compare, dump, meanings, program, tables,
 };
 
 fn main() -> ExitCode {
@@ -48,7 +48,10 @@ fn compare_suite(suite: &str, options: &Options, driver: &[String]) -> io::Resul
         "program" => program::compare(driver, patience, program::cases::all(seed, times)),
         "sheets" => driven(cases_sheets::requests(seed, times)),
         "zones" => driven(cases_zones::requests(seed, times)),
-        _ => return Err(unknown(suite)),
+        table => {
+            let rows = tables::rows(table).ok_or_else(|| unknown(table))?;
+            tables::compare(driver, patience, &rows)
+        }
     };
     println!(
         "compared {} answers, {} differ",
