@@ -7,8 +7,8 @@ usage: reference compare SUITE [--seed S] [--times N] [--patience SECONDS] -- DR
        reference answer
        reference compile
 
-  compare  sends the requests of SUITE (dates, zones, frames, lines, plans or sheets; examples, whose answers are
-           written down) to the driver and compares its answers; a driver that sends
+  compare  sends the requests of SUITE (dates, zones, frames, lines, plans or sheets; examples, limits_dates, limits_plans
+           or limits_sheets, whose answers are written down) to the driver and compares its answers; a driver that sends
            no further answer for SECONDS (60 where none are given) is killed and has failed.
            Of the suite `program` the driver is the commissioning program, which is started for each sheet
   dump     prints WHAT (dates, rules, cron or zones) for the programs in peers/, or sheets and plans with

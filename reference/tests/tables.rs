@@ -1,12 +1,17 @@
-//! The tables of written answers: the reference agrees with them, and they hold what they should.
+//! The tables of written answers: the reference agrees with them, they hold what they should, and a difference names its row.
+
+use std::collections::BTreeSet;
+use std::process::Command;
 
 use reference::answer::answer;
 use reference::dates::{date_of_day, day_of_date, weekday};
 use reference::local::{day_of_minute, written};
 use reference::tables::examples::{examples, CRONTAB, RFC5545};
+use reference::tables::limits::limits;
 use reference::tables::{rows, Row};
 
-const SUITES: [&str; 1] = ["examples"];
+const BINARY: &str = env!("CARGO_BIN_EXE_reference");
+const SUITES: [&str; 4] = ["examples", "limits_dates", "limits_plans", "limits_sheets"];
 
 fn rows_of(suite: &str) -> Vec<Row> {
     rows(suite).expect("there is such a suite")
@@ -43,4 +48,45 @@ fn moving_the_examples_keeps_their_weekdays() {
             );
         }
     }
+}
+
+/// Each limit once, with both sides and different answers; every refusal; and every row in one of the suites.
+#[test]
+fn the_limits_have_two_sides() {
+    let all = limits();
+    assert!(all.len() >= 180, "{}", all.len());
+    let names: BTreeSet<&String> = all.iter().map(|limit| &limit.name).collect();
+    assert_eq!(names.len(), all.len());
+    for limit in &all {
+        match limit.rows.as_slice() {
+            [within, beyond, ..] => assert_ne!(within.answer, beyond.answer, "{}", limit.name),
+            _ => panic!("one side alone: {}", limit.name),
+        }
+    }
+    let rows = |suite: &&str| rows_of(suite).len();
+    let asked: usize = SUITES[1..].iter().map(rows).sum();
+    assert_eq!(asked, all.iter().map(|limit| limit.rows.len()).sum());
+    let numbers = all.iter().flat_map(|limit| &limit.rows);
+    let numbers: BTreeSet<&str> = numbers
+        .filter_map(|row| row.answer.split(' ').next())
+        .collect();
+    assert_eq!(numbers.len(), 12, "{numbers:?}"); // 0 to 11
+}
+
+/// The answers to 64/65 frames of a plan change places; nothing else differs.
+#[test]
+fn a_difference_names_its_row() {
+    let rows = rows_of("limits_plans");
+    let at = rows.iter().position(|row| row.name.ends_with(": 65"));
+    let line = at.expect("a row for 65 frames") + 1;
+    let driver = format!("'{BINARY}' answer | sed '{line}s/.*/0 0/'");
+    let words = ["compare", "limits_plans", "--", "sh", "-c", driver.as_str()];
+    let ended = Command::new(BINARY).args(words).output();
+    let ended = ended.expect("the reference runs");
+    let said = String::from_utf8_lossy(&ended.stdout);
+    assert!(!ended.status.success());
+    let limit = "differs: [frames before the end frame, at most 64: 65] check ";
+    assert!(said.contains(limit), "{said}");
+    let outcome = format!("compared {} answers, 1 differ\n", rows.len() + 2);
+    assert!(said.ends_with(&outcome), "{said}"); // two rows have two answers
 }

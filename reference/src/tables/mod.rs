@@ -1,6 +1,7 @@
 //! Requests whose answers are written down, in the files of `tables/`, and not worked out here.
 
 pub mod examples;
+pub mod limits;
 
 use std::fmt;
 use std::sync::Arc;
@@ -23,10 +24,13 @@ impl fmt::Display for Row {
     }
 }
 
-/// The rows of a suite; none if there is no such suite.
+/// The rows of a suite; none if there is no such suite. The limits are one table, of which each driver answers its part.
 pub fn rows(suite: &str) -> Option<Vec<Row>> {
     match suite {
         "examples" => Some(examples::rows()),
+        "limits_dates" => Some(limits::rows(limits::DATES)),
+        "limits_plans" => Some(limits::rows(limits::PLANS)),
+        "limits_sheets" => Some(limits::rows(limits::SHEETS)),
         _ => None,
     }
 }
