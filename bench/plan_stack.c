@@ -64,11 +64,25 @@ static void *local(void *at) {
     return good && is(evk_instant_of_local(plan, length, 52596000), EVK_OUT_OF_RANGE, 0) ? NULL : at;
 }
 
+/* And +0200, 120 minutes, from the first transition on, 2026-03-29 01:00 UTC. */
+static void *offset(void *at) {
+    static const struct {
+        int64_t instant, offset;
+    } known[] = {{INT64_MIN, 60}, {13801019, 60}, {13801020, 120}, {52595999, 60}, {INT64_MAX, 60}};
+    const struct plan_case *c = at;
+    int good = 1;
+    for (size_t i = 0; i < sizeof known / sizeof known[0]; i++) {
+        evk_offset found = evk_offset_at((const uint8_t *)c->plan, strlen(c->plan), known[i].instant);
+        good &= found.number == EVK_TAKEN && found.line == 0 && found.offset == known[i].offset;
+    }
+    return good ? NULL : at;
+}
+
 int main(void) {
     static const struct {
         const char *name;
         void *(*work)(void *plan_case);
-    } all[] = {{"dates", dates}, {"check", check}, {"next", next}, {"previous", previous}, {"local", local}};
+    } all[] = {{"dates", dates}, {"check", check}, {"next", next}, {"previous", previous}, {"local", local}, {"offset", offset}};
     int status = 0;
     for (size_t i = 0; i < sizeof all / sizeof all[0]; i++) {
         size_t most = 0;

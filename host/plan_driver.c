@@ -4,6 +4,7 @@
      next PLAN INSTANT COUNT         NUMBER LINE INSTANT,.. : COUNT answers, each asked from the one before, or up to a refusal
      previous PLAN INSTANT COUNT     likewise
      local PLAN MINUTE ..            NUMBER LINE INSTANT,.. : the instant of each local minute
+     offset PLAN INSTANT ..          NUMBER LINE OFFSET,.. : the offset at each instant
 
    PLAN is the plan's bytes in hex, two digits a byte, `-` for none: a plan that is not taken may hold any bytes, and any number of them.
    Other numbers are signed 64-bit decimals. A line of another form is answered by `bad request`, and the exit status is then 1; 2 means
@@ -117,15 +118,30 @@ static int previous(plan p) {
     return in_turn(p, evk_previous);
 }
 
-static int local(plan p) {
-    int64_t minute;
+static int each(plan p, search *one) {
+    int64_t asked;
     const char *before = "";
     int got;
-    while ((got = read_number(&minute)) == 1) {
-        show(before, found(p, evk_instant_of_local, minute));
+    while ((got = read_number(&asked)) == 1) {
+        show(before, found(p, one, asked));
         before = ",";
     }
     return got == 0 && *before != 0;
+}
+
+static int local(plan p) {
+    return each(p, evk_instant_of_local);
+}
+
+/* The offset in the place of an instant. */
+static evk_found offset_at(const uint8_t *plan, size_t plan_length, int64_t instant) {
+    evk_offset r = evk_offset_at(plan, plan_length, instant);
+    evk_found found = {r.number, r.line, r.offset};
+    return found;
+}
+
+static int offset(plan p) {
+    return each(p, offset_at);
 }
 
 static const struct request {
@@ -136,6 +152,7 @@ static const struct request {
     {"next", next},
     {"previous", previous},
     {"local", local},
+    {"offset", offset},
 };
 
 /* Answers one line: 1, or 0 for a bad request. */

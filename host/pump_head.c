@@ -9,7 +9,6 @@
 #include <inttypes.h>
 #include <stdio.h>
 #include <stdlib.h>
-#include <string.h>
 
 #include "evandrusk.h"
 
@@ -50,31 +49,9 @@ static int read_number(const char *word, int64_t *number) {
     return errno == 0 && end != word && *end == 0 && INT64_MIN <= value && value <= INT64_MAX;
 }
 
-/* A number of so many upper-case hex digits, in two's complement. */
-static int64_t hex(const uint8_t *digits, int count) {
-    int64_t number = 0;
-    for (int i = 0; i < count; i++) {
-        number = 16 * number + (digits[i] <= '9' ? digits[i] - '0' : digits[i] - 'A' + 10);
-    }
-    return digits[0] < '8' ? number : number - ((int64_t)1 << 4 * count);
-}
-
-/* The offset in force at an instant, by the lines 01 and 02 that a taken plan begins with: right at every instant, doubled hours too. To
-   try local minutes until evk_instant_of_local gives the instant is not: a missing minute, which no clock shows, gives one too, and no
-   minute gives an instant of an hour's second pass. */
-static int64_t offset_at(const uint8_t *plan, int64_t instant) {
-    int64_t offset = hex(plan + 2, 4);
-    const uint8_t *line = plan + 7; /* after `01`, four digits and LF */
-    while (memcmp(line, "02", 2) == 0 && hex(line + 2, 8) <= instant) {
-        offset = hex(line + 10, 4);
-        line += 15; /* `02`, twelve digits and LF */
-    }
-    return offset;
-}
-
-/* The local time of a dose is never before 2000-01-01 00:00. */
-static void show(const uint8_t *plan, int64_t instant) {
-    int64_t offset = offset_at(plan, instant);
+/* Of a plan that is taken. The local time of a dose is never before 2000-01-01 00:00. */
+static void show(const uint8_t *plan, size_t length, int64_t instant) {
+    int64_t offset = evk_offset_at(plan, length, instant).offset;
     int64_t local = instant + offset;
     evk_date date = evk_date_of_day(FIRST_DAY + local / DAY);
     int64_t size = offset < 0 ? -offset : offset;
@@ -99,7 +76,7 @@ int main(int argc, char **argv) {
     for (int64_t k = 0; k < count && status == 0; k++) {
         evk_found dose = evk_next(plan, length, instant);
         if (dose.number == EVK_TAKEN) {
-            show(plan, dose.instant);
+            show(plan, length, dose.instant);
             instant = dose.instant;
         } else {
             printf("%" PRIu64 " %" PRIu64 "\n", dose.number, dose.line);

@@ -13,7 +13,8 @@
    be called from several threads at once. Of a C library the archive wants memcpy and memset at most.
 
    Each answer has a `number`: EVK_TAKEN, or the reason of a refusal. Look at it first: on a refusal every other
-   field but `line`, and of a sheet the bad line's place and length, is 0, and day 0 and instant 0 are also good answers. */
+   field but `line`, and of a sheet the bad line's place and length, is 0, and day 0, instant 0 and offset 0 are also good
+   answers. */
 #ifndef EVANDRUSK_H
 #define EVANDRUSK_H
 
@@ -45,6 +46,7 @@ typedef struct { uint64_t number; int64_t year, week, weekday; } evk_iso;
 typedef struct { uint64_t number, line, length, bad_at, bad_length; } evk_compiled;
 typedef struct { uint64_t number, line; } evk_checked;
 typedef struct { uint64_t number, line; int64_t instant; } evk_found;
+typedef struct { uint64_t number, line; int64_t offset; } evk_offset;
 
 /* The day number of a date. Year 1 to 9999, month 1 to 12, day 1 to the length of that month; anything else is
    refused with EVK_OUT_OF_RANGE. 2000-02-29 is day 11016; 1900-02-29 is refused. */
@@ -81,6 +83,10 @@ evk_found evk_previous(const uint8_t *plan, size_t plan_length, int64_t instant)
 
 /* The instant of a local minute, held or not, by the plan's zone. EVK_NO_PLAN, else EVK_OUT_OF_RANGE. */
 evk_found evk_instant_of_local(const uint8_t *plan, size_t plan_length, int64_t local_minute);
+
+/* The offset in minutes, -720 to 840, at an instant, which may be any, by the plan's zone: the wall clock then shows local
+   minute instant + offset. EVK_NO_PLAN. Of a plan whose only zone line is 01003C it is 60 at every instant. */
+evk_offset evk_offset_at(const uint8_t *plan, size_t plan_length, int64_t instant);
 
 #ifdef __cplusplus
 }

@@ -17,7 +17,7 @@ pub fn answer(request: &str) -> Option<String> {
     let mut words = request.split(' ');
     let name = words.next()?;
     match name {
-        "check" | "next" | "previous" | "local" => return answer_plans::answer(request),
+        "check" | "next" | "previous" | "local" | "offset" => return answer_plans::answer(request),
         "rising" | "falling" | "nth" => return answer_frames::answer(request),
         "line" => return answer_lines::answer(request),
         "sheet" | "sheet_check" | "sheet_next" | "sheet_previous" => {

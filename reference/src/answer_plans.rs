@@ -33,6 +33,10 @@ pub fn answer(request: &str) -> Option<String> {
             let found = minutes.iter().map(|&minute| plan.instant_of_local(minute));
             Some(texts(found))
         }
+        ("offset", instants @ [_, ..]) => {
+            let found = instants.iter().map(|&instant| plan.offset_at(instant));
+            Some(texts(found))
+        }
         _ => None,
     }
 }

@@ -1,4 +1,4 @@
-//! The suite `plans`: the load check, next, previous and local minutes of generated plans, taken and damaged.
+//! The suite `plans`: the load check, next, previous, local minutes and offsets of generated plans, taken and damaged.
 
 use crate::cases_zones::plans_of_zones;
 use crate::entries::compile;
@@ -8,7 +8,7 @@ use crate::generate::{
     plans_at_the_edges, plans_at_the_zone_limits, sheet,
 };
 use crate::hex::word_of;
-use crate::local::{FIRST_MINUTE, LAST_MINUTE};
+use crate::local::{FIRST_MINUTE, LAST_MINUTE, MINUTES_OF_A_DAY};
 use crate::plan::{self, frame::Frame, Plan};
 use crate::random::Random;
 use crate::searches::{any_instant, Search, Searches};
@@ -68,7 +68,10 @@ pub fn requests(seed: u64, times: u64) -> Requests {
     let damages = [damaged_everywhere(&every_kind), plans_at_the_zone_limits()].concat();
     fixed.extend(damages.iter().map(|text| check(text)));
     let zones = plans_of_zones(&mut random, times);
-    fixed.extend(zones.iter().map(|text| check(text.as_bytes())));
+    for text in zones.iter().map(|text| text.as_bytes()) {
+        fixed.push(check(text));
+        fixed.extend(plan::read(text).map(|taken| offsets(text, &taken.zone)));
+    }
     for text in plans_at_the_edges(&mut random) {
         fixed.extend(about(&text, &mut random));
     }
@@ -234,6 +237,7 @@ fn about_few(text: &[u8], random: &mut Random) -> Vec<String> {
         format!("next {plan} {instant} 3"),
         format!("previous {plan} {instant} 3"),
         format!("local {plan} {minute} {}", random.any()),
+        format!("offset {plan} {instant} {}", random.any()),
     ]
 }
 
@@ -259,7 +263,29 @@ fn about_taken(text: &[u8], plan: &Plan, random: &mut Random) -> Vec<String> {
     all.extend(asked.all.iter().map(request));
     let minutes = local_minutes(&plan.zone, random);
     all.push(format!("local {word} {}", minutes.join(" ")));
+    all.push(offsets(text, &plan.zone));
     all
+}
+
+/// The offset at each transition and a minute before and after it, at both ends of the window and a day outside it,
+/// and at the 64-bit ends.
+fn offsets(text: &[u8], zone: &Zone) -> String {
+    let transitions = zone.transitions.iter().map(|transition| transition.instant);
+    let (first, past) = (FIRST_MINUTE, LAST_MINUTE + 1);
+    let ends = [
+        first - MINUTES_OF_A_DAY,
+        first,
+        past,
+        past + MINUTES_OF_A_DAY,
+    ];
+    let beside = |instant| [instant - 1, instant, instant + 1];
+    let near = transitions.chain(ends).flat_map(beside);
+    let asked: Vec<String> = [i64::MIN, i64::MIN + 1, i64::MAX - 1, i64::MAX]
+        .into_iter()
+        .chain(near)
+        .map(|instant| instant.to_string())
+        .collect();
+    format!("offset {} {}", word_of(text), asked.join(" "))
 }
 
 /// Minutes in and around gaps and doubled hours, at both ends of the window and outside it.

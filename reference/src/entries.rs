@@ -148,6 +148,11 @@ impl Loaded {
         })
     }
 
+    /// The offset at an instant by a plan's zone: 10. The offset stands in the place of an instant.
+    pub fn offset_at(&self, instant: i64) -> Found {
+        self.found(|plan| Ok(plan.zone.offset_at(instant)))
+    }
+
     fn meaning(&self, plan: &Plan) -> Rc<Meaning> {
         let mut made = self.meaning.borrow_mut();
         Rc::clone(made.get_or_insert_with(|| Rc::new(plan::of_plan(plan))))

@@ -197,3 +197,25 @@ fn a_local_minute_out_of_range() {
     }
     assert_eq!(Loaded::new(b"").instant_of_local(-1).number, 10);
 }
+
+/// "The offset at an instant is that of the last transition at or before it, else Z's."
+#[test]
+fn the_offset_at_an_instant() {
+    let loaded = Loaded::new(PLAN.as_bytes());
+    let spring = minute_of(2026, 3, 29, 1, 0).expect("a minute of the UTC clock");
+    let autumn = minute_of(2026, 10, 25, 1, 0).expect("a minute of the UTC clock");
+    let known = [
+        (i64::MIN, 60),
+        (spring - 1, 60),
+        (spring, 120),
+        (autumn - 1, 120),
+        (autumn, 60),
+        (i64::MAX, 60),
+    ];
+    for (instant, offset) in known {
+        let found = loaded.offset_at(instant);
+        assert_eq!((found.number, found.line, found.instant), (0, 0, offset));
+    }
+    let refused = Loaded::new(b"").offset_at(spring);
+    assert_eq!((refused.number, refused.line, refused.instant), (10, 1, 0));
+}
