@@ -66,26 +66,32 @@ evk_iso evk_iso_of_day(int64_t day);
 evk_day evk_day_of_iso(int64_t year, int64_t week, int64_t weekday);
 
 /* Compiles a sheet to a plan in the buffer `plan`. EVK_TAKEN and the plan's length: its bytes are the buffer's first, and
-   every byte after them is as it was. Else EVK_TOO_LONG, whatever its lines; else the first bad line decides, and in it
-   the lowest number: `line`, from 1, with the line without its LF at `bad_at`, of `bad_length` bytes; else EVK_NO_ROOM.
-   On a refusal no byte of the buffer is changed; of the two that are of no line, `line` and the place are 0. No plan is
-   longer than 4989 bytes: a Z and 63 rules. */
+   every byte after them is as it was. Refused, in this order: EVK_TOO_LONG, whatever its lines; else the first bad line
+   decides, and in it the lowest of EVK_BAD_LINE to EVK_BAD_START: `line`, from 1, with the line without its LF at `bad_at`,
+   of `bad_length` bytes; else EVK_NO_ROOM. On a refusal no byte of the buffer is changed; of the two that are of no line,
+   `line` and the place are 0. No plan is longer than 4989 bytes: a Z and 63 rules.
+   "Z +0100\n" is the plan "01003C\nFF01\n", length 12; "Z +0100\nQ\n" is EVK_BAD_FORM, line 2, bad_at 8, bad_length 1. */
 evk_compiled evk_compile(const uint8_t *sheet, size_t sheet_length, uint8_t *plan, size_t plan_length);
 
-/* Whether a plan is taken; if not, EVK_NO_PLAN and its line. A plan of no bytes is refused at line 1. */
+/* Whether a plan is taken; if not, EVK_NO_PLAN and its line.
+   "01003C\nFF01\n" is taken; "01003C\nFF02\n" is refused at line 2, and a plan of no bytes at line 1. */
 evk_checked evk_check(const uint8_t *plan, size_t plan_length);
 
-/* The plan's least instant strictly later than the given one, which may be any. EVK_NO_PLAN, else EVK_NONE. */
+/* The plan's least instant strictly later than the given one, which may be any. Refused: EVK_NO_PLAN, else EVK_NONE.
+   Of "010000\n0500000000\nFF02\n", one dose at instant 0, it is 0 from INT64_MIN to -1, and EVK_NONE from 0 on. */
 evk_found evk_next(const uint8_t *plan, size_t plan_length, int64_t instant);
 
-/* The plan's greatest instant strictly earlier than the given one, which may be any. EVK_NO_PLAN, else EVK_NONE. */
+/* The plan's greatest instant strictly earlier than the given one, which may be any. Refused: EVK_NO_PLAN, else EVK_NONE.
+   Of the same plan it is 0 from 1 to INT64_MAX, and EVK_NONE up to 0. */
 evk_found evk_previous(const uint8_t *plan, size_t plan_length, int64_t instant);
 
-/* The instant of a local minute, held or not, by the plan's zone. EVK_NO_PLAN, else EVK_OUT_OF_RANGE. */
+/* The instant of a local minute, held or not, by the plan's zone: one that a gap leaves out goes by the offset before the
+   gap, one that comes twice is its first pass. Refused: EVK_NO_PLAN, else EVK_OUT_OF_RANGE outside 0 to 52595999.
+   Of "01003C\nFF01\n" local minute 60 is instant 0; -1 is refused. */
 evk_found evk_instant_of_local(const uint8_t *plan, size_t plan_length, int64_t local_minute);
 
 /* The offset in minutes, -720 to 840, at an instant, which may be any, by the plan's zone: the wall clock then shows local
-   minute instant + offset. EVK_NO_PLAN. Of a plan whose only zone line is 01003C it is 60 at every instant. */
+   minute instant + offset. Refused: EVK_NO_PLAN. Of "01003C\nFF01\n" it is 60 at every instant. */
 evk_offset evk_offset_at(const uint8_t *plan, size_t plan_length, int64_t instant);
 
 #ifdef __cplusplus
