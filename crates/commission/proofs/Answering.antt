@@ -6,7 +6,7 @@ use native.Mathlib.Omega.{arith}
 use borrow.Author.Tests.{lt-ltb}
 use lib.ListN.{length, take, drop, length-append}
 use lib.Seq.{take-length, take-append-add, take-append-seam, length-take-le}
-use Rattle.compile.proofs.Compiling.{compile-long}
+use Rattle.compile.proofs.Compiling.{compile-long, plan-left}
 use Rattle.compile.specs.Answers.{compiledAs, leftIn}
 use Rattle.compile.specs.Compiled.{Compiled, plan, refusal, compile}
 use Rattle.compile.specs.Reading.{refusalAs}
@@ -46,7 +46,7 @@ refusal-joined number line e f g h = h ∙ rw (g, f, e) refl
 
 -- what is answered and left in the buffer
 plan-in : (c : Compiled) (buffer : List ℕ) (k : ℕ) → Answer.Plan k ≡ compiledAs c → take k (leftIn buffer c) ≡ answerOf c
-plan-in (plan p) buffer k e = let h : k ≡ length p = cc in rw h (take-append-seam p (drop (length p) buffer))
+plan-in (plan p) buffer k e = let h : k ≡ length p = cc in rw h (plan-left buffer p)
 plan-in (refusal number line at size) buffer k e = cc
 
 plan-short : (c : Compiled) (buffer : List ℕ) (k : ℕ) → Answer.Plan k ≡ compiledAs c → k ≤ length (leftIn buffer c)

@@ -7,9 +7,7 @@ ghost use Rattle.compile.specs.Compiled.{compile as compileOf};
 ghost use Rattle.commission.specs.Answer.{answerOf, decimal, refusalText};
 ghost use Rattle.io.specs.Counts.{Counts};
 use compile::Compiled;
-
-// The refusal of a sheet that goes on past the most bytes.
-const TOO_LONG: u64 = 1;
+use compile::TOO_LONG;
 
 // Puts a part behind the text that the buffer's front holds.
 fn append(out: &mut [u8], at: usize, part: &[u8]) -> usize

@@ -1,9 +1,7 @@
 // Standard input, however its bytes come.
 ghost use lib.ListN.{length};
 ghost use Rattle.commission.specs.Read.{Within, Past};
-
-// The most bytes of a sheet.
-const MOST: usize = 16448;
+use compile::MOST_BYTES;
 
 // How many bytes came before the input's end or the buffer's; or a read failed.
 pub(crate) enum Input {
@@ -35,7 +33,7 @@ pub(crate) fn past(n: usize, more: &mut [u8]) -> Input
     ensures { λ r. ⌜ Within r (length (now (more .exit))) ⌝ }
     ensures { λ r. ⌜ Past r n ⌝ }
 {
-    if n < MOST {
+    if n < MOST_BYTES {
         return Input::Is(0);
     }
     fill(more)

@@ -4,6 +4,7 @@ mod input;
 
 ghost use mathlib.Core.Path.{_≡_};
 ghost use lib.ListN.{length};
+use compile::MOST_BYTES;
 use input::Input;
 
 // Where a read fails nothing is written: what came before it may be a part of a sheet.
@@ -22,8 +23,8 @@ fn run(sheet: &mut [u8], more: &mut [u8], plan: &mut [u8])
 }
 
 fn main() {
-    let mut sheet = [0u8; 16448];
+    let mut sheet = [0u8; MOST_BYTES];
     let mut more = [0u8; 1];
-    let mut plan = [0u8; 16448];
+    let mut plan = [0u8; MOST_BYTES];
     run(&mut sheet, &mut more, &mut plan);
 }

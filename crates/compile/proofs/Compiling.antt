@@ -1,13 +1,13 @@
 -- A sheet that is taken or refused, and what comes of it.
-use mathlib.Core.Bool.{true, false}
+use mathlib.Core.Bool.{Bool, true, false}
 use mathlib.Core.List.{List, [], _∷_, _++_, map}
 use mathlib.Core.Path.{_≡_, refl, sym, ap, _∙_}
 use Prim.Native.Nat.{ℕ, suc, _+_, _-_, _<_, _≤_}
 use native.Mathlib.Nat.{add-zero, zero-add}
 use native.Mathlib.Omega.{arith}
-use borrow.Author.Tests.{lt-ltb, le-ltb, ltb-false}
+use borrow.Author.Tests.{lt-ltb, le-ltb, ltb-true, ltb-false}
 use lib.Dec.{ltb}
-use lib.ListN.{length, drop, length-append, length-map}
+use lib.ListN.{length, take, drop, length-append, length-map}
 use lib.Seq.{sets, length-sets, sets-eq, take-append-seam}
 use Rattle.calendar.proofs.Every.{neither}
 use Rattle.framed.specs.Framed.{frameOf}
@@ -22,7 +22,7 @@ use Rattle.plan.specs.declared.Frame.{Frame}
 use Rattle.sheet.specs.Form.{Form}
 use Rattle.sheet.specs.Refusals.{Sheet, taken, refused, tooLong, readSheet, badLine, badAt, badLength}
 use Rattle.compile.specs.Answers.{compiledAs, leftIn, framesIn}
-use Rattle.compile.specs.Compiled.{plan, refusal, framesAfter, compiledFrames, compiledText, compile}
+use Rattle.compile.specs.Compiled.{Compiled, plan, refusal, framesAfter, compiledFrames, compiledText, compile}
 use Rattle.compile.specs.Reading.{frames, sheetFrames, framesRead, refusalAs, readAs, first}
 use Rattle.compile.specs.declared.Compiled.{Compiled as Answer}
 use Rattle.compile.specs.declared.Refusal.{Refusal}
@@ -57,11 +57,34 @@ module _ (text : List ℕ) (room : ℕ) where
   unfolding compile readSheet badLine badAt badLength
   compile-long e = rw (compile, readSheet, e) refl
 
-  pub compile-full : (fs : List Form) → readSheet text ≡ taken fs → room < length (compiledText fs) → compile text room ≡ refusal 9 0 0 0
+  -- what holds of a refusal that the sheet has, of 9, and of its plan where that fits, holds of what compiling is
+  pub compile-cases : (P : Compiled → Type 0)
+      → ((number line : ℕ) → readSheet text ≡ refused number line → P (refusal number line (badAt line (linesOf text .whole)) (badLength line (linesOf text .whole) (linesOf text .tail))))
+      → ((fs : List Form) → readSheet text ≡ taken fs → room < length (compiledText fs) → P (refusal 9 0 0 0))
+      → ((fs : List Form) → readSheet text ≡ taken fs → length (compiledText fs) ≤ room → P (plan (compiledText fs)))
+      → P (compile text room)
+  unfolding compile
+  compile-cases P bad full fits = by-sheet (readSheet text) refl
+    where
+      by-room : (fs : List Form) → readSheet text ≡ taken fs → (b : Bool) → ltb room (length (compiledText fs)) ≡ b
+          → P (elim b [ true ↦ refusal 9 0 0 0 | false ↦ plan (compiledText fs) ])
+      by-room fs e true l = full fs e (ltb-true room (length (compiledText fs)) l)
+      by-room fs e false l = fits fs e (ltb-false room (length (compiledText fs)) l)
+
+      by-sheet : (s : Sheet) → readSheet text ≡ s
+          → P
+          (elim s [
+            | refused number line ↦ refusal number line (badAt line (linesOf text .whole)) (badLength line (linesOf text .whole) (linesOf text .tail))
+            | taken fs ↦ elim (ltb room (length (compiledText fs))) [ true ↦ refusal 9 0 0 0 | false ↦ plan (compiledText fs) ]
+          ])
+      by-sheet (refused number line) e = bad number line e
+      by-sheet (taken fs) e = by-room fs e (ltb room (length (compiledText fs))) refl
+
+  compile-full : (fs : List Form) → readSheet text ≡ taken fs → room < length (compiledText fs) → compile text room ≡ refusal 9 0 0 0
   unfolding compile
   compile-full fs e h = rw (compile, e, lt-ltb _ _ h) refl
 
-  pub compile-fits : (fs : List Form) → readSheet text ≡ taken fs → length (compiledText fs) ≤ room → compile text room ≡ plan (compiledText fs)
+  compile-fits : (fs : List Form) → readSheet text ≡ taken fs → length (compiledText fs) ≤ room → compile text room ≡ plan (compiledText fs)
   unfolding compile
   compile-fits fs e h = rw (compile, e, le-ltb _ _ h) refl
 
@@ -78,14 +101,14 @@ module _ (text : List ℕ) (room : ℕ) where
           rw (compile, g, r) refl
 
 -- ---- a sheet that is taken
-pub record TakenAs (text : List ℕ) (n bytes : ℕ) : Type 0 where
+record TakenAs (text : List ℕ) (n bytes : ℕ) : Type 0 where
   pub forms : List Form
   pub sheet : readSheet text ≡ taken forms
   pub count : n ≡ length forms
   pub size : bytes ≡ length (planText (map frameOf forms))
   pub read : framesRead text ≡ map frameOf forms
 
-pub sheet-taken : (text : List ℕ) → tooLong text ≡ false → (n bytes : ℕ) → Gathered.Is n bytes ≡ readAs (sheetFrames text) → TakenAs text n bytes
+sheet-taken : (text : List ℕ) → tooLong text ≡ false → (n bytes : ℕ) → Gathered.Is n bytes ≡ readAs (sheetFrames text) → TakenAs text n bytes
 unfolding asFrom sheetFrames framesRead
 sheet-taken text l n bytes e = by-sheet (readSheet text) refl (sheet-frames-is text l)
   where
@@ -106,7 +129,7 @@ rows-back : (fs : List Frame) → map frameIn (map rowOf fs) ≡ fs
 rows-back [] = refl
 rows-back (f ∷ fs) = rw (frame-in-row f, rows-back fs) refl
 
-pub frames-kept : (rows₀ rows : List (List ℕ)) (fs : List Frame) (n : ℕ) → rows ≡ sets rows₀ 0 (map rowOf fs) → n ≡ length fs → n ≤ length rows₀ → framesIn rows n ≡ fs
+frames-kept : (rows₀ rows : List (List ℕ)) (fs : List Frame) (n : ℕ) → rows ≡ sets rows₀ 0 (map rowOf fs) → n ≡ length fs → n ≤ length rows₀ → framesIn rows n ≡ fs
 frames-kept rows₀ rows fs n e c h =
     let m : n ≡ length (map rowOf fs) = c ∙ sym (length-map fs rowOf) in
     rw (e, sets-eq (map rowOf fs) rows₀ 0 (omega (arith, m)), m) (ap (map frameIn) (take-append-seam (map rowOf fs) _) ∙ rows-back fs)
@@ -115,8 +138,11 @@ pub rows-places : (rows₀ rows : List (List ℕ)) (fs : List Frame) → rows �
 rows-places rows₀ rows fs e h = ap length e ∙ length-sets rows₀ 0 (map rowOf fs) ∙ h
 
 -- the plan in front of the buffer
-pub put-front : (buffer p : List ℕ) → length p ≤ length buffer → putAt buffer 0 p ≡ p ++ drop (length p) buffer
+put-front : (buffer p : List ℕ) → length p ≤ length buffer → putAt buffer 0 p ≡ p ++ drop (length p) buffer
 put-front buffer p h = let z : 0 + length p ≡ length p = omega arith in put-inside buffer 0 p (omega arith) ∙ rw z refl
+
+pub plan-left : (buffer p : List ℕ) → take (length p) (leftIn buffer (plan p)) ≡ p
+plan-left buffer p = take-append-seam p (drop (length p) buffer)
 
 -- the plan of the first n rows fits, and is what compiling answers and leaves
 pub record Made (text buffer : List ℕ) (rows : List (List ℕ)) (n size : ℕ) : Type 0 where

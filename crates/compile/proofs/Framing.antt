@@ -147,7 +147,7 @@ same-from [] n at c tail h = none-left n at c tail h
 same-from (line ∷ more) n at c tail h =
     same-line n at c line more tail (lined (contextAs c) line) refl (λ b d. same-from more (n + 1) b d tail (λ (z : n + 1 ≡ 0). absurd (omega (arith, z))))
 
--- the frames of a sheet are those of its lines' forms, and a refusal shows the bad line
+-- the frames of a sheet are those of its lines' forms, and a refusal has the bad line's place and length
 pub sheet-frames-is : (text : List ℕ) → tooLong text ≡ false → sheetFrames text ≡ asFrom 0 0 (linesOf text .whole) (linesOf text .tail) (readSheet text)
 unfolding sheetFrames readSheet
 sheet-frames-is text e = rw (readSheet, e) (same-from (linesOf text .whole) 0 0 first (linesOf text .tail) (λ z. refl) .answer)

@@ -24,7 +24,7 @@ use Rattle.compile.specs.declared.step.Stepped.{Stepped}
 use Rattle.compile.proofs.Stepping.{step-is, step-refused}
 
 -- the answer of what is left after n frames and so many bytes
-abbrev pub leftAs : ℕ → ℕ → SheetFrames → Gathered
+abbrev leftAs : ℕ → ℕ → SheetFrames → Gathered
 leftAs n bytes (frames fs) = Gathered.Is (n + length fs) (bytes + length (planText fs))
 leftAs n bytes (refused number line at size) = Gathered.Refused (refusalAs number line at size)
 

@@ -19,11 +19,11 @@ module _ (plan : List ℕ) (fs : List Frame) (f : Frame) (room : length (planTex
   long : length (planText (fs ++ (f ∷ []))) ≡ length (planText fs) + length (wholeLine f)
   long = ap length (text-snoc fs f) ∙ length-append (planText fs) (wholeLine f)
 
-  pub next-place : pastPut (putAt plan 0 (planText fs)) (length (planText fs)) (wholeLine f) ≡ length (planText (fs ++ (f ∷ [])))
+  next-place : pastPut (putAt plan 0 (planText fs)) (length (planText fs)) (wholeLine f) ≡ length (planText (fs ++ (f ∷ [])))
   next-place =
       rw (length-put plan 0 (planText fs), le-leb (length (planText fs) + length (wholeLine f)) (length plan) (omega (arith, long))) (sym long)
 
-  pub next-put : putAt (putAt plan 0 (planText fs)) (length (planText fs)) (wholeLine f) ≡ putAt plan 0 (planText (fs ++ (f ∷ [])))
+  next-put : putAt (putAt plan 0 (planText fs)) (length (planText fs)) (wholeLine f) ≡ putAt plan 0 (planText (fs ++ (f ∷ [])))
   next-put =
       let z : 0 + length (planText fs) ≡ length (planText fs) = omega arith in
       rw z at (put-then plan 0 (planText fs) (wholeLine f) (omega (arith, long))) ∙ ap (putAt plan 0) (sym (text-snoc fs f))
@@ -34,10 +34,10 @@ map-append (x ∷ l) m = rw (map-append l m) refl
 
 -- the frames of the first rows
 module _ (rows : List (List ℕ)) where
-  pub next-frame : (i : ℕ) → i < length rows → framesIn rows (i + 1) ≡ framesIn rows i ++ (frameIn (getD rows i []) ∷ [])
+  next-frame : (i : ℕ) → i < length rows → framesIn rows (i + 1) ≡ framesIn rows i ++ (frameIn (getD rows i []) ∷ [])
   next-frame i h = let s : i + 1 ≡ suc i = omega arith in rw s (ap (map frameIn) (take-suc rows i [] h) ∙ map-append (take i rows) (getD rows i [] ∷ []))
 
-  pub text-within : (i n : ℕ) → i ≤ n → length (planText (framesIn rows i)) ≤ length (planText (framesIn rows n))
+  text-within : (i n : ℕ) → i ≤ n → length (planText (framesIn rows i)) ≤ length (planText (framesIn rows n))
   text-within i n h =
       let e : i + (n - i) ≡ n = omega arith in
       let t : framesIn rows n ≡ framesIn rows i ++ map frameIn (take (n - i) (drop i rows)) = ap (λ (k : ℕ). framesIn rows k) (sym e) ∙ ap (map frameIn) (take-add i (n - i) rows) ∙ map-append (take i rows) (take (n - i) (drop i rows)) in

@@ -13,12 +13,13 @@ mod reading;
 mod step;
 mod writing;
 
-const MOST_BYTES: usize = 16448;
+// The most bytes of a sheet.
+pub const MOST_BYTES: usize = 16448;
 
 const MOST_LINES: usize = 64;
 
 // The refusals of a whole sheet.
-const TOO_LONG: u64 = 1;
+pub const TOO_LONG: u64 = 1;
 
 const NO_ROOM: u64 = 9;
 

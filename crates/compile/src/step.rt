@@ -43,7 +43,7 @@ pub(crate) fn start() -> State
     }
 }
 
-// After one transition more.
+// After one transition more; a transition stands after the zone alone.
 fn one_more(before: Before) -> Before
     requires { ⌜ roomFor before ≡ true ⌝ }
     ensures { λ r. ⌜ r ≡ oneMore before ⌝ }

@@ -7,7 +7,7 @@ use lib.ListN.{length, take}
 use lib.Signed.{ltZ}
 use Rattle.compile.specs.Answers.{leftIn}
 use Rattle.compile.specs.Compiled.{plan, compile}
-use Rattle.evandrusk.proofs.Nearests.{next-answer-unique, previous-answer-unique}
+use Rattle.evandrusk.proofs.Nearests.{later-unique, earlier-unique}
 use Rattle.evandrusk.specs.Plans.{NearestFound, NextAnswer, PreviousAnswer, later}
 use Rattle.evandrusk.specs.Sheets.{compileAnswer}
 use Rattle.evandrusk.specs.declared.answers.EvkCompiled.{EvkCompiled}
@@ -36,14 +36,13 @@ module _ (text : List ℕ) (room : ℕ) (p : List ℕ) (compiled : compile text 
   unfolding PreviousAnswer
   previous-meant = meant-answer text p (plan-source text room p compiled) later asked r
 
--- at most one answer fits the text's meaning
-module _ (text : List ℕ) (room : ℕ) (p : List ℕ) (compiled : compile text room ≡ plan p) (asked : ℤ) (r s : EvkFound) where
+-- at most one answer fits a text's meaning, whatever the text
+module _ (text : List ℕ) (asked : ℤ) (r s : EvkFound) where
   pub next-meant-unique : NearestFound ltZ (MeantInstant text) asked r → NearestFound ltZ (MeantInstant text) asked s → r ≡ s
-  next-meant-unique a b = next-answer-unique p asked r s (next-meant text room p compiled asked r a) (next-meant text room p compiled asked s b)
+  next-meant-unique = later-unique (MeantInstant text) asked r s
 
   pub previous-meant-unique : NearestFound later (MeantInstant text) asked r → NearestFound later (MeantInstant text) asked s → r ≡ s
-  previous-meant-unique a b =
-      previous-answer-unique p asked r s (previous-meant text room p compiled asked r a) (previous-meant text room p compiled asked s b)
+  previous-meant-unique = earlier-unique (MeantInstant text) asked r s
 
 -- of what C holds: where `evk_compile` answers `made` with 0 and leaves the buffer as `left`, its first bytes, `made .length` of them, are such a plan
 module _ (text buffer left : List ℕ) (made : EvkCompiled) (answer : made ≡ compileAnswer (compile text (length buffer)))

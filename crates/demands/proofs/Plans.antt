@@ -3,8 +3,8 @@ use mathlib.Core.List.{List}
 use mathlib.Core.Path.{_≡_, refl, sym, ap, ap₂, _∙_}
 use Prim.Native.Nat.{ℕ, _≤_}
 use native.Mathlib.Omega.{arith}
-use lib.ListN.{length, take, drop}
-use lib.Seq.{take-append-seam}
+use lib.ListN.{length, take}
+use Rattle.compile.proofs.Compiling.{plan-left}
 use Rattle.compile.specs.Answers.{leftIn}
 use Rattle.compile.specs.Compiled.{Compiled, plan, refusal, compile}
 use Rattle.evandrusk.specs.Plans.{checkAnswer}
@@ -27,9 +27,6 @@ module _ (text : List ℕ) (room : ℕ) where
 
   pub planned : compileAnswer (compile text room) .number ≡ 0 → Planned text room
   planned = by-compiled (compile text room) refl (sourced text room)
-
-pub plan-left : (buffer p : List ℕ) → take (length p) (leftIn buffer (plan p)) ≡ p
-plan-left buffer p = take-append-seam p (drop (length p) buffer)
 
 -- the two promises of `evk_compile`: its answer, and the buffer that it leaves
 module _ (text buffer left : List ℕ) (made : EvkCompiled) (answer : made ≡ compileAnswer (compile text (length buffer)))

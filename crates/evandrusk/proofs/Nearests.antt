@@ -12,6 +12,9 @@ use Rattle.evandrusk.specs.Plans.NearestFound.{found, none}
 use Rattle.evandrusk.specs.declared.answers.EvkFound.{EvkFound}
 use Rattle.evandrusk.proofs.Orders.{neither-below}
 
+neither-above : (a b : ℤ) → later a b ≡ false → later b a ≡ false → a ≡ b
+neither-above a b f g = neither-below a b g f
+
 module _ (before : ℤ → ℤ → Bool) (total : (a b : ℤ) → before a b ≡ false → before b a ≡ false → a ≡ b) where
   nearest-unique : (instants : ℤ → Type 0) (asked y z : ℤ) → Nearest before instants asked y → Nearest before instants asked z → y ≡ z
   nearest-unique instants asked y z a b =
@@ -30,6 +33,14 @@ module _ (before : ℤ → ℤ → Bool) (total : (a b : ℤ) → before a b ≡
   by-unique (taken fs) asked r s a b = found-unique (SignedInstant fs) asked r s a b
   by-unique (refused k) asked r s a b = a ∙ sym b
 
+-- later and earlier, of any instants
+module _ (instants : ℤ → Type 0) (asked : ℤ) (r s : EvkFound) where
+  pub later-unique : NearestFound ltZ instants asked r → NearestFound ltZ instants asked s → r ≡ s
+  later-unique = found-unique ltZ neither-below instants asked r s
+
+  pub earlier-unique : NearestFound later instants asked r → NearestFound later instants asked s → r ≡ s
+  earlier-unique = found-unique later neither-above instants asked r s
+
 -- two structs that meet the promise of next are equal, and so with previous
 pub next-answer-unique : (plan : List ℕ) (asked : ℤ) (r s : EvkFound) → NextAnswer plan asked r → NextAnswer plan asked s → r ≡ s
 unfolding NextAnswer
@@ -38,4 +49,4 @@ next-answer-unique plan asked r s = by-unique ltZ neither-below (load plan) aske
 pub previous-answer-unique : (plan : List ℕ) (asked : ℤ) (r s : EvkFound)
     → PreviousAnswer plan asked r → PreviousAnswer plan asked s → r ≡ s
 unfolding PreviousAnswer
-previous-answer-unique plan asked r s = by-unique later (λ a b f g. neither-below a b g f) (load plan) asked r s
+previous-answer-unique plan asked r s = by-unique later neither-above (load plan) asked r s

@@ -11,8 +11,8 @@ use Rattle.zone.specs.Zone.{bias, instantOf}
 use Rattle.sheet.specs.Form.{Form}
 use Rattle.sheet.specs.Meaning.{sheetHeld, sheetZone}
 use Rattle.sheet.specs.Range.{minuteOf}
-use Rattle.sheet.specs.Place.{start, zoned}
-use Rattle.sheet.specs.Refusals.{Sheet, taken, refused, readSheet, lineRefusal}
+use Rattle.sheet.specs.Place.{zoned}
+use Rattle.sheet.specs.Refusals.{Sheet, taken, refused, first, readSheet, lineRefusal}
 
 -- the forms of a taken sheet's lines; a refused sheet has none
 abbrev pub formsOf : Sheet → List Form
@@ -102,18 +102,18 @@ caseExcept =
     eqb (heldDays (sheet "Z +0000\nR 20260131T0600 FREQ=MONTHLY;COUNT=3\nX 20260331T0600\n") 365 (minute 2026 1 1 6 0)) 2
 
 -- "in it the lowest of 2 to 8 that applies": a line as the first of its sheet, or after the example's first two
-first : String → ℕ
-first line = lineRefusal (record { before = start; low = 0; offset = 0 }) (bytes line)
+alone : String → ℕ
+alone line = lineRefusal first (bytes line)
 
 later : String → ℕ
 later line = lineRefusal (record { before = zoned 1; low = 13805340; offset = 1560 }) (bytes line)
 
 unfoldable pub caseRanks : Bool
-unfolding first later
+unfolding alone later
 caseRanks =
-    eqb (first "C 60 * * *") 3
-    && (eqb (first "C 60 * * * *") 4
-    && (eqb (first "D 20260101T2400") 4
+    eqb (alone "C 60 * * *") 3
+    && (eqb (alone "C 60 * * * *") 4
+    && (eqb (alone "D 20260101T2400") 4
     && (eqb (later "T 20260329T0159 +1401") 5
     && (eqb (later "R 20260101T0600 COUNT=0") 5
     && (eqb (later "R 20260101T0600 FREQ=DAILY;COUNT=2;UNTIL=20250101T0000") 6
