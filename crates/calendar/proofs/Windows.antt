@@ -54,10 +54,6 @@ picked : (b : Bool) → cond b 366 365 ≡ 365 + cond b 1 0
 picked true = refl
 picked false = refl
 
-pub window-year-next : (y : ℕ) → windowYear (y + 1) ≡ windowYear y + cond (divides 4 y) 366 365
-unfolding windowYear
-window-year-next y = omega (arith, divided y (divides 4 y) refl, picked (divides 4 y))
-
 -- the year of a local day
 pub record InWindowYear (n : ℕ) : Type 0 where
   pub last : 4 * n / 1461 ≤ 99

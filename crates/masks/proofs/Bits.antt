@@ -4,10 +4,10 @@ use mathlib.Core.Logic.{dite}
 use mathlib.Core.Path.{_≡_, refl, sym, ap, _∙_}
 use Prim.Native.Nat.{ℕ, suc, _+_, _-_, _*_, _/_, _%_, _^_, _<_, _≤_}
 use native.Mathlib.Decide.{decLt}
-use native.Mathlib.Nat.{div-eq-of-lt, one-mul, lt-of-lt-of-le, mod-lt, zero-div}
+use native.Mathlib.Nat.{div-eq-of-lt, one-mul, lt-of-lt-of-le, zero-div}
 use native.Mathlib.Omega.{arith}
-use borrow.Author.Tests.{lt-ltb, le-ltb, le-leb, lt-leb, eq-eqb, ne-eqb}
-use lib.Dec.{leb, ltb, eqb}
+use borrow.Author.Tests.{le-leb, lt-leb, eq-eqb, ne-eqb}
+use lib.Dec.{leb, eqb}
 use lib.Pow.{pow-mono, pow-pos, shl-exact, shr-shr, high, low, field, mod-mod-pow}
 use Rattle.masks.specs.Masks.{bit}
 
@@ -22,9 +22,6 @@ bit-of-zero n = rw (zero-div (2 ^ n)) refl
 pub bit-above : (m n i : ℕ) → m < 2 ^ n → n ≤ i → bit m i ≡ false
 bit-above m n i h l = rw (div-eq-of-lt (lt-of-lt-of-le h (pow-mono l))) refl
 
-pub bit-of-small : (m n : ℕ) → m < 2 ^ n → bit m n ≡ false
-bit-of-small m n h = bit-above m n n h (omega arith)
-
 -- shifted down
 pub bit-of-quotient : (m k i : ℕ) → bit (m / 2 ^ k) i ≡ bit m (k + i)
 bit-of-quotient m k i = ap (λ (x : ℕ). eqb (x % 2) 1) (shr-shr m k i)
@@ -38,13 +35,6 @@ same-digit m i d =
 -- the low part: its bits below k
 pub bit-of-rest : (m k i : ℕ) → i < k → bit (m % 2 ^ k) i ≡ bit m i
 bit-of-rest m k i h = let e : k ≡ suc (k - i - 1) + i = omega arith in ap (λ (x : ℕ). bit (m % 2 ^ x) i) e ∙ same-digit m i (k - i - 1)
-
--- and none from there on
-pub bit-of-remainder : (m k i : ℕ) → bit (m % 2 ^ k) i ≡ (ltb i k && bit m i)
-bit-of-remainder m k i =
-    dite (decLt i k)
-    (λ (l : i < k). bit-of-rest m k i l ∙ (rw (lt-ltb i k l) refl))
-    (λ (g : i < k → ⊥). bit-above (m % 2 ^ k) k i (mod-lt m (pow-pos k)) (omega arith) ∙ (rw (le-ltb i k (omega arith)) refl))
 
 -- a high part above k low digits
 pub bit-high : (a k r i : ℕ) → r < 2 ^ k → k ≤ i → bit (a * 2 ^ k + r) i ≡ bit a (i - k)

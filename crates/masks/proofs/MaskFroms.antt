@@ -11,7 +11,7 @@ use lib.Dec.{leb, ltb, eqb}
 use lib.Pow.{mod-pow-add, shr-shr, shl-lt}
 use Rattle.calendar.proofs.Every.{decided}
 use Rattle.masks.specs.Masks.{bit, maskFrom}
-use Rattle.masks.proofs.Bits.{bit-of-quotient, bit-of-multiple, bit-above, bit-of-zero}
+use Rattle.masks.proofs.Bits.{bit-of-quotient, bit-of-multiple, bit-above}
 
 -- tests that agree on the numbers have the same mask
 pub mask-from-same : (test other : ℕ → Bool) (k n : ℕ) → ((i : ℕ) → n ≤ i → i < n + k → test i ≡ other i) → maskFrom test k n ≡ maskFrom other k n
@@ -140,15 +140,6 @@ own-mask m k h =
 pub mask-ext : (k a b : ℕ) → a < 2 ^ k → b < 2 ^ k → ((i : ℕ) → i < k → bit a i ≡ bit b i) → a ≡ b
 mask-ext k a b ha hb e = sym (own-mask a k ha) ∙ mask-from-same (bit a) (bit b) k 0 (λ i l h. e i (omega arith)) ∙ own-mask b k hb
 
--- with no bit below n, the bits from n on are the whole mask
-pub own-mask-from : (m k n : ℕ) → m < 2 ^ (n + k) → ((i : ℕ) → i < n → bit m i ≡ false) → maskFrom (bit m) k n ≡ m
-own-mask-from m k n h none =
-    mask-ext (n + k) (maskFrom (bit m) k n) m (mask-from-below (bit m) k n) h
-    (λ i l.
-    dite (decLt i n)
-    (λ (a : i < n). bit-below-mask (bit m) k n i a ∙ sym (none i a))
-    (λ (a : i < n → ⊥). bit-in-mask (bit m) k n i (omega arith) l))
-
 -- the mask is 0 exactly if no number passes
 pub mask-none : (test : ℕ → Bool) (k n : ℕ) → ((i : ℕ) → n ≤ i → i < n + k → test i ≡ false) → maskFrom test k n ≡ 0
 unfolding maskFrom
@@ -156,9 +147,6 @@ mask-none test zero n none = refl
 mask-none test (suc k) n none =
     rw (none n (omega arith) (omega arith))
     (omega (arith, mask-none test k (suc n) (λ i l h. none i (omega arith) (omega arith))))
-
-pub none-in-mask : (test : ℕ → Bool) (k n : ℕ) → maskFrom test k n ≡ 0 → (i : ℕ) → n ≤ i → i < n + k → test i ≡ false
-none-in-mask test k n z i l h = sym (bit-in-mask test k n i l h) ∙ ap (λ (x : ℕ). bit x i) z ∙ bit-of-zero i
 
 -- a mask built upwards: one number more at its end
 pub mask-from-last : (test : ℕ → Bool) (k n : ℕ) → maskFrom test (suc k) n ≡ maskFrom test k n + cond (test (n + k)) (2 ^ (n + k)) 0

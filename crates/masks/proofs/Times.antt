@@ -65,19 +65,6 @@ pub last-time-is : (hours minutes t r : ℕ) → t ≤ 1440 → Last (timeHeld h
 last-time-is hours minutes t r h l =
     last-unique (timeHeld hours minutes) 0 t r (lastTime hours minutes t) l (last-time-last hours minutes t h)
 
-pub next-time-at-most : (hours minutes t : ℕ) → nextTime hours minutes t ≤ 1440
-next-time-at-most hours minutes t =
-    dite (decLt t 1440)
-    (λ (l : t < 1440). next-time-least hours minutes t (omega arith) .to)
-    (λ (g : t < 1440 → ⊥). omega (arith, next-time-past hours minutes t (omega arith)))
-
-pub last-time-at-most : (hours minutes t : ℕ) → lastTime hours minutes t ≤ 1440
-last-time-at-most hours minutes t =
-    dite (decLt t 1440)
-    (λ (l : t < 1440). omega (arith, last-time-last hours minutes t (omega arith) .to))
-    (λ (g : t < 1440 → ⊥).
-    omega (arith, last-time-past hours minutes t (omega arith), last-time-last hours minutes 1440 (omega arith) .to))
-
 -- from the start of an hour on
 pub hours-none : (hours minutes hour : ℕ) → 24 ≤ nextBit hours hour → nextTime hours minutes (60 * hour) ≡ 1440
 hours-none hours minutes hour h =

@@ -1,19 +1,19 @@
 -- Masks joined and cut with each other; a bit that is set, and the other bits as they were.
-use mathlib.Core.Bool.{Bool, true, false, cond, _&&_, _||_, or-true, or-false}
-use mathlib.Core.Logic.{_≢_, dite}
-use mathlib.Core.Path.{_≡_, refl, sym, ap, _∙_}
+use mathlib.Core.Bool.{Bool, true, false, cond, _&&_, _||_}
+use mathlib.Core.Logic.{dite}
+use mathlib.Core.Path.{_≡_, refl, ap, _∙_}
 use Prim.Native.Nat.{ℕ, suc, _+_, _-_, _*_, _/_, _%_, _^_, _<_, _≤_, min, max}
 use native.Mathlib.Decide.{decLt}
 use native.Mathlib.Nat.{zero-mul, one-mul}
 use native.Mathlib.Omega.{arith}
-use borrow.Author.Tests.{lt-ltb, le-ltb, eq-eqb, ne-eqb, eqb-true, eqb-false}
+use borrow.Author.Tests.{lt-ltb, le-ltb, eqb-true, eqb-false}
 use lib.Bits.{bitAnd, bitOr, and-shr, and-step, or-shr, or-step, or-add-and, or-lt, and-high}
 use lib.Dec.{eqb}
 use lib.Pow.{pow-add, pow-lt}
 use Rattle.calendar.proofs.Every.{decided}
 use Rattle.masks.specs.Masks.{bit, maskFrom, withBit}
 use Rattle.masks.proofs.Bits.{bit-of-power}
-use Rattle.masks.proofs.MaskFroms.{mask-ext, mask-from-below, mask-from-last, bit-in-mask, bit-below-mask, bit-above-mask}
+use Rattle.masks.proofs.MaskFroms.{mask-from-last, bit-above-mask}
 
 either-digit : (p q : ℕ) → p < 2 → q < 2 → eqb (max p q) 1 ≡ (eqb p 1 || eqb q 1)
 either-digit p q hp hq =
@@ -80,36 +80,12 @@ pub bit-of-with-bit : (m n i : ℕ) → n < 64 → bit (withBit m n) i ≡ (bit 
 bit-of-with-bit m n i h =
     ap (λ (x : ℕ). bit x i) (with-bit-or m n h) ∙ bit-of-both m (2 ^ n) i ∙ ap (λ (b : Bool). bit m i || b) (bit-of-power n i)
 
-pub bit-set : (m n : ℕ) → n < 64 → bit (withBit m n) n ≡ true
-bit-set m n h = bit-of-with-bit m n n h ∙ (rw (eq-eqb n n refl) (or-true (bit m n)))
-
-pub bit-kept : (m n i : ℕ) → i ≢ n → bit (withBit m n) i ≡ bit m i
-bit-kept m n i e =
-    dite (decLt n 64)
-    (λ (h : n < 64). bit-of-with-bit m n i h ∙ (rw (ne-eqb i n e) (or-false (bit m i))))
-    (λ (g : n < 64 → ⊥). ap (λ (x : ℕ). bit x i) (with-bit-past m n (omega arith)))
-
 -- the mask stays within its width
 pub with-bit-below : (m n k : ℕ) → m < 2 ^ k → n < k → withBit m n < 2 ^ k
 with-bit-below m n k h l =
     dite (decLt n 64)
     (λ (a : n < 64). rw (with-bit-or m n a) (or-lt k m (2 ^ n) h (pow-lt l)))
     (λ (g : n < 64 → ⊥). rw (with-bit-past m n (omega arith)) h)
-
--- one number more in the mask of a test
-pub with-bit-of-mask : (test : ℕ → Bool) (k n i : ℕ) → n ≤ i → i < n + k → i < 64 → withBit (maskFrom test k n) i ≡ maskFrom (λ j. test j || eqb j i) k n
-with-bit-of-mask test k n i l h s =
-    mask-ext (n + k) (withBit (maskFrom test k n) i) (maskFrom (λ j. test j || eqb j i) k n)
-    (with-bit-below (maskFrom test k n) i (n + k) (mask-from-below test k n) h)
-    (mask-from-below (λ j. test j || eqb j i) k n)
-    (λ j b.
-    bit-of-with-bit (maskFrom test k n) i j s
-    ∙ dite (decLt j n)
-    (λ (a : j < n).
-    (rw (bit-below-mask test k n j a, ne-eqb j i (omega arith)) refl) ∙ sym (bit-below-mask (λ x. test x || eqb x i) k n j a))
-    (λ (g : j < n → ⊥).
-    ap (λ (c : Bool). c || eqb j i) (bit-in-mask test k n j (omega arith) b)
-    ∙ sym (bit-in-mask (λ x. test x || eqb x i) k n j (omega arith) b)))
 
 -- a mask built upwards, bit after bit
 pub mask-from-with-last : (test : ℕ → Bool) (k n : ℕ) → n + k < 64 → maskFrom test (suc k) n ≡ cond (test (n + k)) (withBit (maskFrom test k n) (n + k)) (maskFrom test k n)

@@ -7,21 +7,12 @@ use Rattle.calendar.proofs.Every.{same-either-way}
 use Rattle.calendar.specs.Below.{anyOf}
 use Rattle.held.specs.Lists.{anyHeld, anyExcepts, listHeld, frameExcepts as rowExcepts}
 use Rattle.held.specs.Minutes.{frameHeld}
-use Rattle.frames.specs.Numbers.{cronOf, ruleOf}
 use Rattle.frames.specs.declared.Cron.{Cron}
 use Rattle.frames.specs.declared.Rule.{Rule}
 use Rattle.zone.specs.Zone.{inWindow}
 use Rattle.plan.specs.Plan.{frameHolds, frameExcepts, planHeld}
 use Rattle.plan.specs.Rows.{rowOf, frameIn}
 use Rattle.plan.specs.declared.Frame.{Frame}
-
-pub cron-row-back : (f : Cron) → cronOf (rowOf (Frame.Cron f)) ≡ f
-unfolding rowOf
-cron-row-back f = refl
-
-pub rule-row-back : (f : Rule) → ruleOf (rowOf (Frame.Rule f)) ≡ f
-unfolding rowOf
-rule-row-back f = refl
 
 pub frame-in-row : (f : Frame) → frameIn (rowOf f) ≡ f
 unfolding rowOf frameIn

@@ -1,7 +1,6 @@
 -- The stretches: each local minute of the window is in one of them, becomes an instant by its offset, and instants fall back only at a gap.
 use mathlib.Core.Bool.{true}
 use mathlib.Core.List.{List, [], _∷_}
-use mathlib.Core.Logic.{_↔_}
 use mathlib.Core.Path.{_≡_, refl, ap}
 use Prim.Native.Nat.{ℕ, zero, suc, _+_, _-_, _<_, _≤_, min}
 use native.Mathlib.Nat.{le-trans}
@@ -208,14 +207,7 @@ module _ (z : Offsets) (good : zoneGood z ≡ true) where
   stretch-ahead zero m w l = absurd (omega arith)
   stretch-ahead (suc k) m w l = ending 0 (z .first) (z .changes) m k (g .changes) w (omega arith)
 
-  pub stretch-count : (m : ℕ) → stretchOf z m ≤ 32
-  unfolding stretchOf
-  stretch-count m = omega (arith, g .places, bounded (z .first) (z .changes) m)
-
-  -- every local minute of the window is in a stretch, and in one only
-  pub in-stretch : (m : ℕ) → m < 52596000 → InStretch z (stretchOf z m) m
-  in-stretch m w = record { from = stretch-started z (stretchOf z m) m (omega arith); past = stretch-ahead (stretchOf z m + 1) m w (omega arith) }
-
+  -- a local minute is in one stretch only
   pub the-stretch : (k m : ℕ) → InStretch z k m → k ≡ stretchOf z m
   the-stretch k m s =
       by-order (stretchOf z m) k (λ l. absurd (omega (arith, s .from, s .past, stretch-within z (k + 1), stretch-ahead k m (omega (arith, s .past, stretch-within z (k + 1))) l)))
@@ -229,11 +221,7 @@ module _ (z : Offsets) (good : zoneGood z ≡ true) where
   stretch-long zero l = absurd (omega arith)
   stretch-long (suc k) l = rw add-one (end-long 0 (z .first) (z .changes) k (g .changes) l)
 
-  -- so stretches rise, strictly within the window
-  pub stretch-rise : (k : ℕ) → stretchFrom z k < 52596000 → 0 < stretchFrom z (k + 1) → stretchFrom z k < stretchFrom z (k + 1)
-  stretch-rise k l p =
-      by-order 0 (stretchFrom z k) (λ b. omega (arith, stretch-long k b)) (λ b. omega arith)
-
+  -- so stretches rise
   pub stretch-mono : (j k : ℕ) → j ≤ k → stretchFrom z j ≤ stretchFrom z k
   stretch-mono j zero l = let e : j ≡ 0 = omega arith in rw e (omega arith)
   stretch-mono j (suc k) l =
@@ -260,13 +248,6 @@ module _ (z : Offsets) (good : zoneGood z ≡ true) where
 
   pub stretch-instant : (k m : ℕ) → InStretch z k m → instantOf z m + stretchOffset z k ≡ m + 2880
   stretch-instant k m s = rw (the-stretch k m s) (instant-of-stretch m)
-
-  -- which of them are later than an instant i, and which earlier
-  pub stretch-later : (k m i : ℕ) → InStretch z k m → (i < instantOf z m) ↔ (i + stretchOffset z k < m + 2880)
-  stretch-later k m i s = (λ l. omega (arith, stretch-instant k m s), λ l. omega (arith, stretch-instant k m s))
-
-  pub stretch-earlier : (k m i : ℕ) → InStretch z k m → (instantOf z m < i) ↔ (m + 2880 < i + stretchOffset z k)
-  stretch-earlier k m i s = (λ l. omega (arith, stretch-instant k m s), λ l. omega (arith, stretch-instant k m s))
 
   -- so within a stretch instants rise with the minutes
   pub stretch-rises : (k m n : ℕ) → InStretch z k m → InStretch z k n → m < n → instantOf z m < instantOf z n
