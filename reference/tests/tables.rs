@@ -73,7 +73,7 @@ fn the_limits_have_two_sides() {
     assert_eq!(numbers.len(), 12, "{numbers:?}"); // 0 to 11
 }
 
-/// The answers to 64/65 frames of a plan change places; nothing else differs.
+/// The driver takes the plan of 65 frames, and answers all else rightly.
 #[test]
 fn a_difference_names_its_row() {
     let rows = rows_of("limits_plans");

@@ -1,7 +1,7 @@
 -- The loop's invariant: the line passes if what was passed did and what is left does.
 use mathlib.Core.Bool.{Bool, _&&_, and-true}
 use mathlib.Core.Path.{_≡_, refl, sym, ap, _∙_}
-use Prim.Native.Nat.{ℕ, _+_, _-_}
+use Prim.Native.Nat.{_+_, _-_}
 use native.Mathlib.Omega.{arith}
 use denote.Ref.{now}
 use lib.ListN.{length, drop, getD}
