@@ -221,7 +221,8 @@ iso-of-day-of-iso y w d v =
     let e : isoYear n ≡ y = sym (iso-year-is n y (v .below) i) in
     same e (omega (arith, ap isoStart e, v .week-low, v .low, v .high)) (omega (arith, ap isoStart e, v .week-low, v .low, v .high))
 
-pub iso-day-iso : (y w d : ℕ) → validIso y w d ≡ true → isoOfDay (dayOfWeek y w d) ≡ IsoDated.Is (record { year = y; week = w; weekday = d })
+pub iso-day-iso : (y w d : ℕ) → validIso y w d ≡ true
+    → isoOfDay (dayOfWeek y w d) ≡ IsoDated.Is (record { year = y; week = w; weekday = d })
 unfolding isoOfDay
 iso-day-iso y w d e =
     let v = valid-iso y w d e in

@@ -84,7 +84,8 @@ last-unique test low high r s a b =
     dite (decLt s r) (λ (l : s < r). absurd (later-last test low high s r b a l)) (λ (k : s < r → ⊥). omega arith))
 
 -- numbers that fail may stand before the least
-pub least-after : (test : ℕ → Bool) (low mid high r : ℕ) → low ≤ mid → ((j : ℕ) → low ≤ j → j < mid → test j ≡ false) → Least test mid high r → Least test low high r
+pub least-after : (test : ℕ → Bool) (low mid high r : ℕ) → low ≤ mid → ((j : ℕ) → low ≤ j → j < mid → test j ≡ false)
+    → Least test mid high r → Least test low high r
 least-after test low mid high r h f a =
     record {
       from = omega (arith, a .from);
@@ -94,7 +95,8 @@ least-after test low mid high r h f a =
     }
 
 -- and after the last
-pub last-before : (test : ℕ → Bool) (low mid high r : ℕ) → mid ≤ high → ((j : ℕ) → mid ≤ j → j < high → test j ≡ false) → Last test low mid r → Last test low high r
+pub last-before : (test : ℕ → Bool) (low mid high r : ℕ) → mid ≤ high → ((j : ℕ) → mid ≤ j → j < high → test j ≡ false)
+    → Last test low mid r → Last test low high r
 last-before test low mid high r h f a =
     record {
       from = a .from;
@@ -118,7 +120,8 @@ pub last-none : (test : ℕ → Bool) (low high : ℕ) → low ≤ high → ((j 
 last-none test low high h f = record { from = omega arith; to = h; passes = λ l. absurd (omega arith); fails = f }
 
 -- tests that agree on the range have the same least
-pub least-same : (test other : ℕ → Bool) (low high r : ℕ) → ((j : ℕ) → low ≤ j → j < high → test j ≡ other j) → Least test low high r → Least other low high r
+pub least-same : (test other : ℕ → Bool) (low high r : ℕ) → ((j : ℕ) → low ≤ j → j < high → test j ≡ other j) → Least test low high r
+    → Least other low high r
 least-same test other low high r e a =
     record {
       from = a .from;
@@ -127,7 +130,8 @@ least-same test other low high r e a =
       fails = λ j l b. sym (e j l (omega (arith, a .to))) ∙ a .fails j l b;
     }
 
-pub last-same : (test other : ℕ → Bool) (low high r : ℕ) → ((j : ℕ) → low ≤ j → j < high → test j ≡ other j) → Last test low high r → Last other low high r
+pub last-same : (test other : ℕ → Bool) (low high r : ℕ) → ((j : ℕ) → low ≤ j → j < high → test j ≡ other j) → Last test low high r
+    → Last other low high r
 last-same test other low high r e a =
     record {
       from = a .from;

@@ -47,13 +47,18 @@ all-steps false = tt
 
 pub month-start-next : (b : Bool) (m : ℕ) → m ≤ 12 → monthStart b (m + 1) ≡ monthStart b m + monthLength b m
 unfolding steps
-month-start-next b m h = eqb→eq _ _ (left (eqb (monthStart b (m + 1)) (monthStart b m + monthLength b m)) _ (every (steps b) 13 (all-steps b) m (omega arith)))
+month-start-next b m h =
+    eqb→eq _ _ (left (eqb (monthStart b (m + 1)) (monthStart b m + monthLength b m)) _ (every (steps b) 13 (all-steps b) m (omega arith)))
 
 pub month-ends : (b : Bool) (m : ℕ) → m ≤ 12 → monthStart b m + monthLength b m ≤ cond b 366 365
 unfolding steps
 month-ends b m h =
     let t = every (steps b) 13 (all-steps b) m (omega arith) in
-    omega (arith, month-start-next b m h, leb→le (monthStart b (m + 1)) (cond b 366 365) (right (eqb (monthStart b (m + 1)) (monthStart b m + monthLength b m)) _ t))
+    omega (
+      arith,
+      month-start-next b m h,
+      leb→le (monthStart b (m + 1)) (cond b 366 365) (right (eqb (monthStart b (m + 1)) (monthStart b m + monthLength b m)) _ t),
+    )
 
 -- what has a day is a month
 pub month-of-day : (b : Bool) (m d : ℕ) → 1 ≤ d → d ≤ monthLength b m → (1 ≤ m) × (m ≤ 12)
@@ -128,8 +133,10 @@ month-day-is b r {q} a =
     let e : q .day - 1 + 1 ≡ q .day = omega (arith, a .first) in
     let t = every (back b (q .month)) 31 (right (leb (monthLength b (q .month)) 31) _ s) (q .day - 1) k in
     let p = monthDay b (monthStart b (q .month) + (q .day - 1)) in
-    let u = chosen (leb (q .day - 1 + 1) (monthLength b (q .month))) _ (le-leb (q .day - 1 + 1) (monthLength b (q .month)) (omega (arith, a .last, a .first))) t in
-    month-day-same (sym (eqb→eq (p .month) (q .month) (left (eqb (p .month) (q .month)) _ u))) (sym (eqb→eq (p .day) (q .day - 1 + 1) (right (eqb (p .month) (q .month)) _ u) ∙ e))
+    let u =
+    chosen (leb (q .day - 1 + 1) (monthLength b (q .month))) _ (le-leb (q .day - 1 + 1) (monthLength b (q .month)) (omega (arith, a .last, a .first))) t in
+    month-day-same (sym (eqb→eq (p .month) (q .month) (left (eqb (p .month) (q .month)) _ u)))
+    (sym (eqb→eq (p .day) (q .day - 1 + 1) (right (eqb (p .month) (q .month)) _ u) ∙ e))
     ∙ ap (monthDay b) (a .whole)
 
 -- the code's guess: the 32-day month that the day would be in, or the next
@@ -150,13 +157,16 @@ module _ (b : Bool) (r : ℕ) (h : r < 366) where
   guessed : T (guess b r)
   guessed = every (guess b) 366 (all-guess b) r h
 
-  pub guessed-next : (next : ℕ) → next ≡ monthStart b (r / 32 + 1 + 1) → next ≤ r → record { month = r / 32 + 1 + 1; day = r - next + 1 } ≡ monthDay b r
+  pub guessed-next : (next : ℕ) → next ≡ monthStart b (r / 32 + 1 + 1) → next ≤ r
+      → record { month = r / 32 + 1 + 1; day = r - next + 1 } ≡ monthDay b r
   unfolding guess
   guessed-next next e l =
       let q = monthDay b r in
       let k : monthStart b (r / 32 + 1 + 1) ≤ r = omega (arith, e) in
-      let t : T (eqb (r / 32 + 1 + 1) (q .month) && eqb (r - monthStart b (r / 32 + 1 + 1) + 1) (q .day)) = simp (le-leb _ _ k) at guessed in
-      month-day-same (eqb→eq _ _ (left (eqb (r / 32 + 1 + 1) (q .month)) _ t)) (omega (arith, e, eqb→eq (r - monthStart b (r / 32 + 1 + 1) + 1) (q .day) (right (eqb (r / 32 + 1 + 1) (q .month)) _ t)))
+      let t : T (eqb (r / 32 + 1 + 1) (q .month) && eqb (r - monthStart b (r / 32 + 1 + 1) + 1) (q .day)) =
+      simp (le-leb _ _ k) at guessed in
+      month-day-same (eqb→eq _ _ (left (eqb (r / 32 + 1 + 1) (q .month)) _ t))
+      (omega (arith, e, eqb→eq (r - monthStart b (r / 32 + 1 + 1) + 1) (q .day) (right (eqb (r / 32 + 1 + 1) (q .month)) _ t)))
 
   module _ (next this : ℕ) (e : next ≡ monthStart b (r / 32 + 1 + 1)) (f : this ≡ monthStart b (r / 32 + 1)) (l : r < next) where
     guessed-first : T (leb (monthStart b (r / 32 + 1)) r && (eqb (r / 32 + 1) (monthDay b r .month) && eqb (r - monthStart b (r / 32 + 1) + 1) (monthDay b r .day)))

@@ -213,7 +213,8 @@ pub local-date-is : (n : ℕ) {q : MonthDay} → InWindow n q → q ≡ localDat
 local-date-is n a = in-window-unique n a (local-date-holds n (in-window-below n a))
 
 -- the month and the day of month of a local day are those of the full calendar
-pub window-date : (n : ℕ) → n < 36525 → dateOf (730119 + n) ≡ record { year = 2000 + localDate n .month / 12; month = localDate n .month % 12 + 1; day = localDate n .day }
+pub window-date : (n : ℕ) → n < 36525
+    → dateOf (730119 + n) ≡ record { year = 2000 + localDate n .month / 12; month = localDate n .month % 12 + 1; day = localDate n .day }
 unfolding dayOf
 window-date n h =
     let k = localDate n .month in

@@ -27,7 +27,8 @@ small true = omega arith
 small false = omega arith
 
 -- one more year than k: the groups of 4, 100 and 400 years that end with it
-leaps : (a b c : Bool) (n : ℕ) → eqb (suc n % 4) 0 ≡ a → eqb (suc n % 100) 0 ≡ b → eqb (suc n % 400) 0 ≡ c → suc n / 4 + suc n / 400 + n / 100 ≡ n / 4 + n / 400 + suc n / 100 + cond (a && not (b && not c)) 1 0
+leaps : (a b c : Bool) (n : ℕ) → eqb (suc n % 4) 0 ≡ a → eqb (suc n % 100) 0 ≡ b → eqb (suc n % 400) 0 ≡ c
+    → suc n / 4 + suc n / 400 + n / 100 ≡ n / 4 + n / 400 + suc n / 100 + cond (a && not (b && not c)) 1 0
 leaps true true true n p q r = omega (arith, eqb-true (suc n % 4) 0 p, eqb-true (suc n % 100) 0 q, eqb-true (suc n % 400) 0 r)
 leaps true true false n p q r = omega (arith, eqb-true (suc n % 4) 0 p, eqb-true (suc n % 100) 0 q, eqb-false (suc n % 400) 0 r)
 leaps true false true n p q r = omega (arith, eqb-true (suc n % 4) 0 p, eqb-false (suc n % 100) 0 q, eqb-true (suc n % 400) 0 r)
@@ -99,7 +100,15 @@ same e d = λ i. record { year = e i; day = d i }
 
 later : (n : ℕ) (p q : YearDay) → InYear n p → InYear n q → p .year < q .year → ⊥
 later n p q a b h =
-    omega (arith, a .first, a .whole, a .short, b .whole, year-start-next (p .year) (a .first), year-start-mono (p .year + 1) (q .year) (omega arith))
+    omega (
+      arith,
+      a .first,
+      a .whole,
+      a .short,
+      b .whole,
+      year-start-next (p .year) (a .first),
+      year-start-mono (p .year + 1) (q .year) (omega arith),
+    )
 
 -- a day has one year and one day of year
 pub in-year-unique : (n : ℕ) {p q : YearDay} → InYear n p → InYear n q → p ≡ q

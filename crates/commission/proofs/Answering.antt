@@ -21,7 +21,8 @@ unfolding refusalText decimal
 marked = refl
 
 module _ (out part rest post : List ℕ) (at : ℕ) where
-  pub appended : at ≤ length out → take (at + length part) (take at out ++ ((take (length part) part ++ rest) ++ post)) ≡ take at out ++ part
+  pub appended : at ≤ length out
+      → take (at + length part) (take at out ++ ((take (length part) part ++ rest) ++ post)) ≡ take at out ++ part
   appended room =
       let whole = (take (length part) part ++ rest) ++ post in
       ap (λ (k : ℕ). take (k + length part) (take at out ++ whole)) (sym (length-take-le at out room))
@@ -40,7 +41,8 @@ pub unread : (text rest : List ℕ) (room : ℕ) → 16448 < length text → ans
 unread text rest room h = too-long (text ++ rest) room (omega (arith, h, length-append text rest)) ∙ sym (too-long text room h)
 
 -- a number, a space, a number and LF one behind the other
-pub refusal-joined : (number line : ℕ) {a b c d : List ℕ} → a ≡ decimal number → b ≡ a ++ (32 ∷ []) → c ≡ b ++ decimal line → d ≡ c ++ (10 ∷ []) → d ≡ refusalText number line
+pub refusal-joined : (number line : ℕ) {a b c d : List ℕ} → a ≡ decimal number → b ≡ a ++ (32 ∷ []) → c ≡ b ++ decimal line
+    → d ≡ c ++ (10 ∷ []) → d ≡ refusalText number line
 unfolding refusalText
 refusal-joined number line e f g h = h ∙ rw (g, f, e) refl
 
@@ -66,8 +68,12 @@ module _ (sheet more buffer : List ℕ) (last : length more ≤ 0) (room : 16448
   whole : compile sheet (length buffer) ≡ compile (sheet ++ more) 16448
   whole = ap (λ (n : ℕ). compile sheet n) (sym room) ∙ ap (λ (l : List ℕ). compile l 16448) (none-more sheet more last)
 
-  pub planned : (left : List ℕ) (k : ℕ) → Answer.Plan k ≡ compiledAs (compile sheet (length buffer)) → left ≡ leftIn buffer (compile sheet (length buffer)) → (k ≤ length left) × (take k left ≡ answerOf (compile (sheet ++ more) 16448))
-  planned left k e f = let c = compile sheet (length buffer) in (subst (λ (l : List ℕ). k ≤ length l) (sym f) (plan-short c buffer k e), ap (take k) f ∙ plan-in c buffer k e ∙ ap answerOf whole)
+  pub planned : (left : List ℕ) (k : ℕ) → Answer.Plan k ≡ compiledAs (compile sheet (length buffer))
+      → left ≡ leftIn buffer (compile sheet (length buffer)) → (k ≤ length left) × (take k left ≡ answerOf (compile (sheet ++ more) 16448))
+  planned left k e f =
+      let c = compile sheet (length buffer) in
+      (subst (λ (l : List ℕ). k ≤ length l) (sym f) (plan-short c buffer k e), ap (take k) f ∙ plan-in c buffer k e ∙ ap answerOf whole)
 
-  pub refused : (r : Refusal) → Answer.Refused r ≡ compiledAs (compile sheet (length buffer)) → refusalText (r .number) (r .line) ≡ answerOf (compile (sheet ++ more) 16448)
+  pub refused : (r : Refusal) → Answer.Refused r ≡ compiledAs (compile sheet (length buffer))
+      → refusalText (r .number) (r .line) ≡ answerOf (compile (sheet ++ more) 16448)
   refused r e = refusal-in (compile sheet (length buffer)) r e ∙ ap answerOf whole

@@ -20,5 +20,6 @@ module _ (r : Input) (k : ℕ) (e : r ≡ Input.Is k) where
   behind n p = subst (λ (x : Input). Past x n) e p
 
 -- the two parts that are lent
-pub lent : (sheet more : List ℕ) (n k : ℕ) → n ≤ length sheet → k ≤ length more → (0 < k → 16448 ≤ n) → 0 < length (take k more) → 16448 ≤ length (take n sheet)
+pub lent : (sheet more : List ℕ) (n k : ℕ) → n ≤ length sheet → k ≤ length more → (0 < k → 16448 ≤ n) → 0 < length (take k more)
+    → 16448 ≤ length (take n sheet)
 lent sheet more n k s m p h = omega (arith, length-take-le n sheet s, p (omega (arith, h, length-take-le k more m)))

@@ -40,7 +40,8 @@ pub compiled-frames : (fs : List Form) → compiledFrames fs ≡ map frameOf fs 
 unfolding compiledFrames
 compiled-frames fs = frames-after fs 0 ∙ rw zero-add
 
-pub compiled-length : (fs : List Form) → length (compiledText fs) ≡ length (planText (map frameOf fs)) + length (wholeLine (Frame.End (length fs)))
+pub compiled-length : (fs : List Form)
+    → length (compiledText fs) ≡ length (planText (map frameOf fs)) + length (wholeLine (Frame.End (length fs)))
 unfolding compiledText
 compiled-length fs =
     ap (λ (gs : List Frame). length (planText gs)) (compiled-frames fs)
@@ -88,16 +89,19 @@ module _ (text : List ℕ) (room : ℕ) where
   unfolding compile
   compile-fits fs e h = rw (compile, e, le-ltb _ _ h) refl
 
-  pub compile-refused : tooLong text ≡ false → (b : Refusal) → Gathered.Refused b ≡ readAs (sheetFrames text) → compile text room ≡ refusal (b .number) (b .line) (b .at) (b .length)
+  pub compile-refused : tooLong text ≡ false → (b : Refusal) → Gathered.Refused b ≡ readAs (sheetFrames text)
+      → compile text room ≡ refusal (b .number) (b .line) (b .at) (b .length)
   unfolding compile asFrom
   compile-refused l b e = by-sheet (readSheet text) refl (e ∙ ap readAs (sheet-frames-is text l))
     where
-      by-sheet : (s : Sheet) → readSheet text ≡ s → Gathered.Refused b ≡ readAs (asFrom 0 0 (linesOf text .whole) (linesOf text .tail) s) → compile text room ≡ refusal (b .number) (b .line) (b .at) (b .length)
+      by-sheet : (s : Sheet) → readSheet text ≡ s → Gathered.Refused b ≡ readAs (asFrom 0 0 (linesOf text .whole) (linesOf text .tail) s)
+          → compile text room ≡ refusal (b .number) (b .line) (b .at) (b .length)
       by-sheet (taken fs) g e = let z : _≡_ {A = ℕ} 0 1 = cc in absurd (omega arith)
       by-sheet (refused number line) g e =
           let k : line - 0 ≡ line = omega arith in
           let z : 0 + badAt line (linesOf text .whole) ≡ badAt line (linesOf text .whole) = omega arith in
-          let r : b ≡ refusalAs number line (badAt line (linesOf text .whole)) (badLength line (linesOf text .whole) (linesOf text .tail)) = cc (k, z) in
+          let r : b ≡ refusalAs number line (badAt line (linesOf text .whole)) (badLength line (linesOf text .whole) (linesOf text .tail)) =
+          cc (k, z) in
           rw (compile, g, r) refl
 
 -- ---- a sheet that is taken
@@ -108,11 +112,13 @@ record TakenAs (text : List ℕ) (n bytes : ℕ) : Type 0 where
   pub size : bytes ≡ length (planText (map frameOf forms))
   pub read : framesRead text ≡ map frameOf forms
 
-sheet-taken : (text : List ℕ) → tooLong text ≡ false → (n bytes : ℕ) → Gathered.Is n bytes ≡ readAs (sheetFrames text) → TakenAs text n bytes
+sheet-taken : (text : List ℕ) → tooLong text ≡ false → (n bytes : ℕ) → Gathered.Is n bytes ≡ readAs (sheetFrames text)
+    → TakenAs text n bytes
 unfolding asFrom sheetFrames framesRead
 sheet-taken text l n bytes e = by-sheet (readSheet text) refl (sheet-frames-is text l)
   where
-    by-sheet : (s : Sheet) → readSheet text ≡ s → sheetFrames text ≡ asFrom 0 0 (linesOf text .whole) (linesOf text .tail) s → TakenAs text n bytes
+    by-sheet : (s : Sheet) → readSheet text ≡ s → sheetFrames text ≡ asFrom 0 0 (linesOf text .whole) (linesOf text .tail) s
+        → TakenAs text n bytes
     by-sheet (taken fs) g f =
         let r : Gathered.Is n bytes ≡ readAs (frames (map frameOf fs)) = e ∙ ap readAs f in
         record {
@@ -122,14 +128,16 @@ sheet-taken text l n bytes e = by-sheet (readSheet text) refl (sheet-frames-is t
           size = cc;
           read = frames-read (linesOf text .whole) 0 0 first (linesOf text .tail) (map frameOf fs) f;
         }
-    by-sheet (refused number line) g f = let r : Gathered.Is n bytes ≡ Gathered.Refused _ = e ∙ ap readAs f in let z : _≡_ {A = ℕ} 0 1 = cc in absurd (omega arith)
+    by-sheet (refused number line) g f =
+        let r : Gathered.Is n bytes ≡ Gathered.Refused _ = e ∙ ap readAs f in let z : _≡_ {A = ℕ} 0 1 = cc in absurd (omega arith)
 
 -- ---- the frames that the rows hold are those that were stored
 rows-back : (fs : List Frame) → map frameIn (map rowOf fs) ≡ fs
 rows-back [] = refl
 rows-back (f ∷ fs) = rw (frame-in-row f, rows-back fs) refl
 
-frames-kept : (rows₀ rows : List (List ℕ)) (fs : List Frame) (n : ℕ) → rows ≡ sets rows₀ 0 (map rowOf fs) → n ≡ length fs → n ≤ length rows₀ → framesIn rows n ≡ fs
+frames-kept : (rows₀ rows : List (List ℕ)) (fs : List Frame) (n : ℕ) → rows ≡ sets rows₀ 0 (map rowOf fs) → n ≡ length fs → n ≤ length rows₀
+    → framesIn rows n ≡ fs
 frames-kept rows₀ rows fs n e c h =
     let m : n ≡ length (map rowOf fs) = c ∙ sym (length-map fs rowOf) in
     rw (e, sets-eq (map rowOf fs) rows₀ 0 (omega (arith, m)), m) (ap (map frameIn) (take-append-seam (map rowOf fs) _) ∙ rows-back fs)
@@ -158,7 +166,8 @@ module _ (text buffer : List ℕ) (l : tooLong text ≡ false) (n bytes end : �
   size : bytes + end ≡ length (compiledText (t .forms))
   unfolding t
   size =
-      let k : length (wholeLine (Frame.End n)) ≡ length (wholeLine (Frame.End (length (t .forms)))) = ap (λ (m : ℕ). length (wholeLine (Frame.End m))) (t .count) in
+      let k : length (wholeLine (Frame.End n)) ≡ length (wholeLine (Frame.End (length (t .forms)))) =
+      ap (λ (m : ℕ). length (wholeLine (Frame.End m))) (t .count) in
       omega (arith, compiled-length (t .forms), t .size, g, k)
 
   pub no-room : length buffer < bytes + end → compile text (length buffer) ≡ refusal 9 0 0 0
@@ -169,8 +178,11 @@ module _ (text buffer : List ℕ) (l : tooLong text ≡ false) (n bytes end : �
     unfolding compiledText
     kept =
         let k : n ≡ length (map frameOf (t .forms)) = t .count ∙ sym (length-map (t .forms) frameOf) in
-        let f : framesIn rows n ≡ map frameOf (t .forms) = frames-kept rows₀ rows (map frameOf (t .forms)) n (stored ∙ ap (λ (fs : List Frame). sets rows₀ 0 (map rowOf fs)) (t .read)) k (omega (arith, places)) in
-        ap planText (ap (λ (fs : List Frame). fs ++ (Frame.End n ∷ [])) f ∙ ap (λ (m : ℕ). map frameOf (t .forms) ++ (Frame.End m ∷ [])) (t .count) ∙ sym (compiled-frames (t .forms)))
+        let f : framesIn rows n ≡ map frameOf (t .forms) =
+        frames-kept rows₀ rows (map frameOf (t .forms)) n (stored ∙ ap (λ (fs : List Frame). sets rows₀ 0 (map rowOf fs)) (t .read)) k
+        (omega (arith, places)) in
+        ap planText
+        (ap (λ (fs : List Frame). fs ++ (Frame.End n ∷ [])) f ∙ ap (λ (m : ℕ). map frameOf (t .forms) ++ (Frame.End m ∷ [])) (t .count) ∙ sym (compiled-frames (t .forms)))
 
     pub plan-made : Made text buffer rows n (bytes + end)
     plan-made =

@@ -28,7 +28,8 @@ unfolding frameOf contextAfter instantOfTime
 context-next c (zone s) = refl
 context-next c (change t s) = by-before (c .before)
   where
-    by-before : (b : Before) → contextAs (nextContext (record { before = b; low = c .low; offset = c .offset }) (frameOf (change t s))) ≡ contextAfter (contextAs (record { before = b; low = c .low; offset = c .offset })) (change t s)
+    by-before : (b : Before)
+        → contextAs (nextContext (record { before = b; low = c .low; offset = c .offset }) (frameOf (change t s))) ≡ contextAfter (contextAs (record { before = b; low = c .low; offset = c .offset })) (change t s)
     by-before Before.Start = refl
     by-before (Before.Zoned k) = let e : k + 1 ≡ suc k = omega arith in rw e refl
     by-before Before.Lines = refl
@@ -48,7 +49,8 @@ Later n (taken fs) = Unit {0}
 Later n (refusedSheet number line) = n < line
 
 module _ (n at : ℕ) (line : List ℕ) (more : List (List ℕ)) (tail : List ℕ) where
-  one-on : (f : Form) (r : Sheet) → Later (n + 1) r → following (frameOf f) (asFrom (n + 1) (at + length line + 1) more tail r) ≡ asFrom n at (line ∷ more) tail (followed f r)
+  one-on : (f : Form) (r : Sheet) → Later (n + 1) r
+      → following (frameOf f) (asFrom (n + 1) (at + length line + 1) more tail r) ≡ asFrom n at (line ∷ more) tail (followed f r)
   unfolding asFrom Later badLine badAt badLength
   one-on f (taken fs) l = refl
   one-on f (refusedSheet number k) l =
@@ -94,14 +96,16 @@ module _ (n at : ℕ) (c : Context) (line : List ℕ) (more : List (List ℕ)) (
   unfolding readFrom
   read-on f o z = rw (readFrom, o, eq-eqb _ _ z) refl
 
-  read-stop : (number : ℕ) → lined (contextAs c) line ≡ Lined.Refused number → readFrom n (contextAs c) (line ∷ more) tail ≡ refusedSheet number (n + 1)
+  read-stop : (number : ℕ) → lined (contextAs c) line ≡ Lined.Refused number
+      → readFrom n (contextAs c) (line ∷ more) tail ≡ refusedSheet number (n + 1)
   unfolding readFrom
   read-stop number e = by-form (formOf line) refl
     where
       is : lineRefusal (contextAs c) line ≡ number
       is = sym (lined-number (contextAs c) line) ∙ ap refusalOf e
 
-      by-number : (f : Form) → formOf line ≡ some f → (b : Bool) → eqb (lineRefusal (contextAs c) line) 0 ≡ b → readFrom n (contextAs c) (line ∷ more) tail ≡ refusedSheet number (n + 1)
+      by-number : (f : Form) → formOf line ≡ some f → (b : Bool) → eqb (lineRefusal (contextAs c) line) 0 ≡ b
+          → readFrom n (contextAs c) (line ∷ more) tail ≡ refusedSheet number (n + 1)
       by-number f o true z =
           let g : Lined.Refused number ≡ Lined.Is (frameOf f) = sym e ∙ lined-frame (contextAs c) line (eqb-true _ 0 z) f o in
           let y : _≡_ {A = ℕ} 0 1 = cc in absurd (omega arith)
@@ -111,15 +115,18 @@ module _ (n at : ℕ) (c : Context) (line : List ℕ) (more : List (List ℕ)) (
       by-form none o = rw (readFrom, o, is) refl
       by-form (some f) o = by-number f o (eqb (lineRefusal (contextAs c) line) 0) refl
 
-  frames-on : (f : Frame) → lined (contextAs c) line ≡ Lined.Is f → sheetFramesFrom n at c (line ∷ more) tail ≡ following f (sheetFramesFrom (n + 1) (at + length line + 1) (nextContext c f) more tail)
+  frames-on : (f : Frame) → lined (contextAs c) line ≡ Lined.Is f
+      → sheetFramesFrom n at c (line ∷ more) tail ≡ following f (sheetFramesFrom (n + 1) (at + length line + 1) (nextContext c f) more tail)
   unfolding sheetFramesFrom
   frames-on f e = rw (sheetFramesFrom, e) refl
 
-  frames-stop : (number : ℕ) → lined (contextAs c) line ≡ Lined.Refused number → sheetFramesFrom n at c (line ∷ more) tail ≡ refused number (n + 1) at (length line)
+  frames-stop : (number : ℕ) → lined (contextAs c) line ≡ Lined.Refused number
+      → sheetFramesFrom n at c (line ∷ more) tail ≡ refused number (n + 1) at (length line)
   unfolding sheetFramesFrom
   frames-stop number e = rw (sheetFramesFrom, e) refl
 
-  same-line : (x : Lined) → lined (contextAs c) line ≡ x → ((b : ℕ) (d : Context) → Same (n + 1) b d more tail) → Same n at c (line ∷ more) tail
+  same-line : (x : Lined) → lined (contextAs c) line ≡ x → ((b : ℕ) (d : Context) → Same (n + 1) b d more tail)
+      → Same n at c (line ∷ more) tail
   unfolding Later
   same-line (Lined.Refused number) e again =
       let r = read-stop number e in
@@ -136,7 +143,8 @@ module _ (n at : ℕ) (c : Context) (line : List ℕ) (more : List (List ℕ)) (
       let l : Later (n + 1) (readFrom (n + 1) (contextAfter (contextAs c) g) more tail) = rw k at (s .later) in
       record {
         answer = frames-on (frameOf g) (e ∙ ap Lined.Is (q .same))
-            ∙ ap (following (frameOf g)) (s .answer ∙ ap (λ (d : Standings). asFrom (n + 1) (at + length line + 1) more tail (readFrom (n + 1) d more tail)) k)
+            ∙ ap (following (frameOf g))
+            (s .answer ∙ ap (λ (d : Standings). asFrom (n + 1) (at + length line + 1) more tail (readFrom (n + 1) d more tail)) k)
             ∙ one-on n at line more tail g (readFrom (n + 1) (contextAfter (contextAs c) g) more tail) l
             ∙ ap (asFrom n at (line ∷ more) tail) (sym r);
         later = rw r (later-on n g (readFrom (n + 1) (contextAfter (contextAs c) g) more tail) l);
@@ -148,12 +156,14 @@ same-from (line ∷ more) n at c tail h =
     same-line n at c line more tail (lined (contextAs c) line) refl (λ b d. same-from more (n + 1) b d tail (λ (z : n + 1 ≡ 0). absurd (omega (arith, z))))
 
 -- the frames of a sheet are those of its lines' forms, and a refusal has the bad line's place and length
-pub sheet-frames-is : (text : List ℕ) → tooLong text ≡ false → sheetFrames text ≡ asFrom 0 0 (linesOf text .whole) (linesOf text .tail) (readSheet text)
+pub sheet-frames-is : (text : List ℕ) → tooLong text ≡ false
+    → sheetFrames text ≡ asFrom 0 0 (linesOf text .whole) (linesOf text .tail) (readSheet text)
 unfolding sheetFrames readSheet
 sheet-frames-is text e = rw (readSheet, e) (same-from (linesOf text .whole) 0 0 first (linesOf text .tail) (λ z. refl) .answer)
 
 -- ---- the frames that were read are those that are answered
-pub frames-read : (lines : List (List ℕ)) (n at : ℕ) (c : Context) (tail : List ℕ) (fs : List Frame) → sheetFramesFrom n at c lines tail ≡ frames fs → framesFrom c lines ≡ fs
+pub frames-read : (lines : List (List ℕ)) (n at : ℕ) (c : Context) (tail : List ℕ) (fs : List Frame)
+    → sheetFramesFrom n at c lines tail ≡ frames fs → framesFrom c lines ≡ fs
 unfolding sheetFramesFrom framesFrom
 frames-read [] n at c tail fs e = by-ends (ltb 0 (length tail)) (eqb n 0) e
   where
@@ -161,13 +171,20 @@ frames-read [] n at c tail fs e = by-ends (ltb 0 (length tail)) (eqb n 0) e
     by-ends true b e = let z : _≡_ {A = ℕ} 0 1 = cc in absurd (omega arith)
     by-ends false true e = let z : _≡_ {A = ℕ} 0 1 = cc in absurd (omega arith)
     by-ends false false e = cc
-frames-read (line ∷ more) n at c tail fs e = by-lined (lined (contextAs c) line) refl (λ f gs. frames-read more (n + 1) (at + length line + 1) (nextContext c f) tail gs) e
+frames-read (line ∷ more) n at c tail fs e =
+    by-lined (lined (contextAs c) line) refl (λ f gs. frames-read more (n + 1) (at + length line + 1) (nextContext c f) tail gs) e
   where
-    by-rest : (f : Frame) (x : SheetFrames) → ((gs : List Frame) → x ≡ frames gs → framesFrom (nextContext c f) more ≡ gs) → following f x ≡ frames fs → f ∷ framesFrom (nextContext c f) more ≡ fs
+    by-rest : (f : Frame) (x : SheetFrames) → ((gs : List Frame) → x ≡ frames gs → framesFrom (nextContext c f) more ≡ gs)
+        → following f x ≡ frames fs → f ∷ framesFrom (nextContext c f) more ≡ fs
     by-rest f (frames gs) again e = cc (again gs refl)
     by-rest f (refused number k b size) again e = let z : _≡_ {A = ℕ} 0 1 = cc in absurd (omega arith)
 
-    by-lined : (x : Lined) → lined (contextAs c) line ≡ x → ((f : Frame) (gs : List Frame) → sheetFramesFrom (n + 1) (at + length line + 1) (nextContext c f) more tail ≡ frames gs → framesFrom (nextContext c f) more ≡ gs)
+    by-lined : (x : Lined) → lined (contextAs c) line ≡ x
+        → ((f : Frame) (gs : List Frame) → sheetFramesFrom (n + 1) (at + length line + 1) (nextContext c f) more tail ≡ frames gs → framesFrom (nextContext c f) more ≡ gs)
         → sheetFramesFrom n at c (line ∷ more) tail ≡ frames fs → framesFrom c (line ∷ more) ≡ fs
-    by-lined (Lined.Is f) g again e = rw (framesFrom, g) (by-rest f (sheetFramesFrom (n + 1) (at + length line + 1) (nextContext c f) more tail) (again f) (rw (sheetFramesFrom, g) at e))
-    by-lined (Lined.Refused number) g again e = let h : refused number (n + 1) at (length line) ≡ frames fs = rw (sheetFramesFrom, g) at e in let z : _≡_ {A = ℕ} 0 1 = cc in absurd (omega arith)
+    by-lined (Lined.Is f) g again e =
+        rw (framesFrom, g)
+        (by-rest f (sheetFramesFrom (n + 1) (at + length line + 1) (nextContext c f) more tail) (again f) (rw (sheetFramesFrom, g) at e))
+    by-lined (Lined.Refused number) g again e =
+        let h : refused number (n + 1) at (length line) ≡ frames fs = rw (sheetFramesFrom, g) at e in
+        let z : _≡_ {A = ℕ} 0 1 = cc in absurd (omega arith)

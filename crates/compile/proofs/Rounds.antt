@@ -40,10 +40,13 @@ abbrev pub Right : List ℕ → List (List ℕ) → List (List ℕ) → Gathered
 Right text rows₀ rows r = (r ≡ readAs (sheetFrames text)) × (rows ≡ sets rows₀ 0 (map rowOf (framesRead text)))
 
 all-left : (x : SheetFrames) → leftAs 0 0 x ≡ readAs x
-all-left (frames fs) = let e : 0 + length fs ≡ length fs = omega arith in let g : 0 + length (planText fs) ≡ length (planText fs) = omega arith in rw (e, g) refl
+all-left (frames fs) =
+    let e : 0 + length fs ≡ length fs = omega arith in
+    let g : 0 + length (planText fs) ≡ length (planText fs) = omega arith in rw (e, g) refl
 all-left (refused number line at size) = refl
 
-pub left-first : (text : List ℕ) (rows : List (List ℕ)) → linesIn text ≤ 64 → Left text rows rows 0 (record { context = first; lines = 0; frames = 0; bytes = 0 })
+pub left-first : (text : List ℕ) (rows : List (List ℕ)) → linesIn text ≤ 64
+    → Left text rows rows 0 (record { context = first; lines = 0; frames = 0; bytes = 0 })
 unfolding sheetFrames framesRead linesIn
 left-first text rows h =
     record {
@@ -60,12 +63,14 @@ more-left : (n bytes : ℕ) (f : Frame) (x : SheetFrames) → leftAs (n + 1) (by
 unfolding planText
 more-left n bytes f (frames fs) =
     let e : n + 1 + length fs ≡ n + suc (length fs) = omega arith in
-    let g : bytes + length (wholeLine f) + length (planText fs) ≡ bytes + length (frameLine f ++ (10 ∷ planText fs)) = omega (arith, whole-length f, length-append (frameLine f) (10 ∷ planText fs)) in
+    let g : bytes + length (wholeLine f) + length (planText fs) ≡ bytes + length (frameLine f ++ (10 ∷ planText fs)) =
+    omega (arith, whole-length f, length-append (frameLine f) (10 ∷ planText fs)) in
     rw (e, g) refl
 more-left n bytes f (refused number line at size) = refl
 
 module _ (text : List ℕ) (rows₀ rows : List (List ℕ)) (at : ℕ) (s : State) (left : Left text rows₀ rows at s) where
-  rest : (ls : Lines) → linesOf (drop at text) ≡ ls → (leftAs (s .frames) (s .bytes) (sheetFramesFrom (s .lines) at (s .context) (ls .whole) (ls .tail)) ≡ readAs (sheetFrames text))
+  rest : (ls : Lines) → linesOf (drop at text) ≡ ls
+      → (leftAs (s .frames) (s .bytes) (sheetFramesFrom (s .lines) at (s .context) (ls .whole) (ls .tail)) ≡ readAs (sheetFrames text))
       × (sets rows (s .frames) (map rowOf (framesFrom (s .context) (ls .whole))) ≡ sets rows₀ 0 (map rowOf (framesRead text)))
   rest ls e = (
     ap (λ (x : Lines). leftAs (s .frames) (s .bytes) (sheetFramesFrom (s .lines) at (s .context) (x .whole) (x .tail))) (sym e) ∙ left .answer,
@@ -79,7 +84,8 @@ module _ (text : List ℕ) (rows₀ rows : List (List ℕ)) (at : ℕ) (s : Stat
       let r = rest (record { whole = []; tail = [] }) (ap linesOf (drop-of-length-le text {i = at} h)) in
       (by-lines (eqb (s .lines) 0) ∙ r .0, r .1)
     where
-      by-lines : (b : Bool) → cond b (Gathered.Refused (refusalAs 4 1 0 0)) (Gathered.Is (s .frames) (s .bytes)) ≡ leftAs (s .frames) (s .bytes) (cond b (refused 4 1 0 0) (frames []))
+      by-lines : (b : Bool)
+          → cond b (Gathered.Refused (refusalAs 4 1 0 0)) (Gathered.Is (s .frames) (s .bytes)) ≡ leftAs (s .frames) (s .bytes) (cond b (refused 4 1 0 0) (frames []))
       by-lines true = refl
       by-lines false = let e : s .frames + 0 ≡ s .frames = omega arith in let g : s .bytes + 0 ≡ s .bytes = omega arith in rw (e, g) refl
 
@@ -88,10 +94,12 @@ module _ (text : List ℕ) (rows₀ rows : List (List ℕ)) (at : ℕ) (s : Stat
     where
       by-lines : (b : Bool) → small (cond b (Gathered.Refused (refusalAs 4 1 0 0)) (Gathered.Is (s .frames) (s .bytes))) ≡ true
       by-lines true = refl
-      by-lines false = rw (le-leb (s .frames) 64 (omega (arith, left .places)), le-leb (s .bytes) 5056 (omega (arith, left .places, left .bytes))) refl
+      by-lines false =
+          rw (le-leb (s .frames) 64 (omega (arith, left .places)), le-leb (s .bytes) 5056 (omega (arith, left .places, left .bytes))) refl
 
   -- a line without LF
-  pub left-tail : at < length text → length text ≤ lineEnd text at → Right text rows₀ rows (Gathered.Refused (refusalAs 2 (s .lines + 1) at (lineEnd text at - at)))
+  pub left-tail : at < length text → length text ≤ lineEnd text at
+      → Right text rows₀ rows (Gathered.Refused (refusalAs 2 (s .lines + 1) at (lineEnd text at - at)))
   unfolding sheetFramesFrom framesFrom
   left-tail h l =
       let r = rest (record { whole = []; tail = drop at text }) (lines-none text at (left .within) l) in
@@ -124,14 +132,16 @@ module _ (text : List ℕ) (rows₀ rows : List (List ℕ)) (at : ℕ) (s : Stat
     framesOn : Lined → List Frame
     framesOn x = elim x [ Lined.Is f ↦ f ∷ framesFrom (nextContext (s .context) f) more | Lined.Refused number ↦ [] ]
 
-    by-line : (x : Lined) → lined (contextAs (s .context)) line ≡ x → (leftAs (s .frames) (s .bytes) (onLined x) ≡ readAs (sheetFrames text))
+    by-line : (x : Lined) → lined (contextAs (s .context)) line ≡ x
+        → (leftAs (s .frames) (s .bytes) (onLined x) ≡ readAs (sheetFrames text))
         × (sets rows (s .frames) (map rowOf (framesOn x)) ≡ sets rows₀ 0 (map rowOf (framesRead text)))
     unfolding sheetFramesFrom framesFrom onLined framesOn
     by-line x e =
         let r = rest (record { whole = line ∷ more; tail = tail }) (lines-at text at (left .within) h) in
         (ap (λ (y : Lined). leftAs (s .frames) (s .bytes) (onLined y)) (sym e) ∙ r .0, ap (λ (y : Lined). sets rows (s .frames) (map rowOf (framesOn y))) (sym e) ∙ r .1)
 
-    left-bad : (number : ℕ) → lined (contextAs (s .context)) line ≡ Lined.Refused number → Right text rows₀ rows (Gathered.Refused (refusalAs number (s .lines + 1) at (lineEnd text at - at)))
+    left-bad : (number : ℕ) → lined (contextAs (s .context)) line ≡ Lined.Refused number
+        → Right text rows₀ rows (Gathered.Refused (refusalAs number (s .lines + 1) at (lineEnd text at - at)))
     unfolding onLined framesOn
     left-bad number e = let r = by-line (Lined.Refused number) e in (rw size at (r .0), r .1)
 
@@ -148,7 +158,9 @@ module _ (text : List ℕ) (rows₀ rows : List (List ℕ)) (at : ℕ) (s : Stat
           lines = ap (λ (k : ℕ). k + 1) (left .lines);
           places = omega (arith, left .places, ap (λ (ls : Lines). length (ls .whole)) (lines-at text at (left .within) h));
           bytes = omega (arith, left .bytes, whole-length f, line-short f);
-          answer = more-left (s .frames) (s .bytes) f (sheetFramesFrom (s .lines + 1) (lineEnd text at + 1) (nextContext (s .context) f) more tail)
+          answer =
+              more-left (s .frames) (s .bytes) f
+              (sheetFramesFrom (s .lines + 1) (lineEnd text at + 1) (nextContext (s .context) f) more tail)
               ∙ rw p at (r .0);
           stored = ap (λ (k : ℕ). sets (set rows (s .frames) (rowOf f)) k (map rowOf (framesFrom (nextContext (s .context) f) more))) n ∙ r .1;
         }

@@ -50,7 +50,8 @@ module _ (l : List ℕ) (k set : ℕ) (e : set ≡ monthSet l (startMonth l) k) 
       n : ℕ
       n = from - monthFirst k + 1
 
-      in-turn : (j : ℕ) → InMonth k j → n ≤ j → inRun n (placeOf (widthOf l) (startDay l) from % turn) (widthOf l) turn j ≡ dayCounts (ruleOf l) (dayOf k j)
+      in-turn : (j : ℕ) → InMonth k j → n ≤ j
+          → inRun n (placeOf (widthOf l) (startDay l) from % turn) (widthOf l) turn j ≡ dayCounts (ruleOf l) (dayOf k j)
       unfolding n
       in-turn j i h =
           let w : ℕ = widthOf l in

@@ -23,7 +23,8 @@ module _ (m n : ℕ) (h : n ≤ 64) where
       let a : leastFrom (bit m) (64 - n) n ≡ n + (64 - n) = omega (arith, least, next-bit-at-most m n) in
       sym (nth-none (bit m) c (64 - n) n a ∙ e)
 
-  pub nth-bit-next : (c : ℕ) → 1 < c → nextBit m n < 64 → nthFrom (bit m) c (64 - n) n ≡ nthFrom (bit m) (c - 1) (64 - (nextBit m n + 1)) (nextBit m n + 1)
+  pub nth-bit-next : (c : ℕ) → 1 < c → nextBit m n < 64
+      → nthFrom (bit m) c (64 - n) n ≡ nthFrom (bit m) (c - 1) (64 - (nextBit m n + 1)) (nextBit m n + 1)
   nth-bit-next c g l =
       let e : n + (64 - n) ≡ 64 = omega arith in
       rw least

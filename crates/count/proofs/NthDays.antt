@@ -66,7 +66,8 @@ module _ (l : List ℕ) (k n : ℕ) (i : InMonth k n) (set : ℕ) (e : HeldSet l
       let a : nthFrom (bit set) c (64 - n) n ≡ nthFrom (bit set) c rest n =
       ap (λ (x : ℕ). nthFrom (bit set) c x n) s ∙ nth-within (bit set) c rest (63 - monthDays k) n p (omega (arith, bits-here)) in
       let b : nthFrom (dayHeld l) c (36525 - dayOf k n) (dayOf k n) ≡ nthFrom (dayHeld l) c rest (dayOf k n) =
-      ap (λ (x : ℕ). nthFrom (dayHeld l) c x (dayOf k n)) split ∙ nth-within (dayHeld l) c rest _ (dayOf k n) p (omega (arith, held-here)) in
+      ap (λ (x : ℕ). nthFrom (dayHeld l) c x (dayOf k n)) split
+      ∙ nth-within (dayHeld l) c rest _ (dayOf k n) p (omega (arith, held-here)) in
       omega (arith, i .low, a, b, nth-along (bit set) (dayHeld l) c rest n (dayOf k n) held-bit)
 
   pub nth-day-on : (c : ℕ) → bitsFrom set n < c → nthDay l c (dayOf k n) ≡ nthDay l (c - bitsFrom set n) (dayOf (k + 1) 1)

@@ -24,10 +24,12 @@ pub record Kept (mask n x width turn at kept : ℕ) : Type 0 where
 
 module _ (mask n x width turn len : ℕ) (w : Within mask n x width turn len) where
   in-run : (j p : ℕ) → (x + (j - n)) % turn ≡ p → p < width → bit mask j ≡ (bit mask j && inRun n x width turn j)
-  in-run j p e h = sym (ap (λ (y : ℕ). bit mask j && ltb y width) e ∙ ap (λ (b : Bool). bit mask j && b) (lt-ltb p width h) ∙ and-true (bit mask j))
+  in-run j p e h =
+      sym (ap (λ (y : ℕ). bit mask j && ltb y width) e ∙ ap (λ (b : Bool). bit mask j && b) (lt-ltb p width h) ∙ and-true (bit mask j))
 
   not-in-run : (j p : ℕ) → (x + (j - n)) % turn ≡ p → width ≤ p → false ≡ (bit mask j && inRun n x width turn j)
-  not-in-run j p e h = sym (ap (λ (y : ℕ). bit mask j && ltb y width) e ∙ ap (λ (b : Bool). bit mask j && b) (le-ltb p width h) ∙ and-false (bit mask j))
+  not-in-run j p e h =
+      sym (ap (λ (y : ℕ). bit mask j && ltb y width) e ∙ ap (λ (b : Bool). bit mask j && b) (le-ltb p width h) ∙ and-false (bit mask j))
 
   pub kept-first : Kept mask n x width turn (n + (turn - x)) (maskFrom (bit mask) (width - x) n)
   kept-first =
@@ -55,7 +57,8 @@ module _ (mask n x width turn len : ℕ) (w : Within mask n x width turn len) wh
         ∙ ap (λ (y : ℕ). y % turn) z
         ∙ mod-eq-of-lt (omega arith)
 
-    both : (j : ℕ) {a b : Bool} → bit kept j ≡ a → bit (maskFrom (bit mask) width at) j ≡ b → bit (bitOr kept (maskFrom (bit mask) width at)) j ≡ (a || b)
+    both : (j : ℕ) {a b : Bool} → bit kept j ≡ a → bit (maskFrom (bit mask) width at) j ≡ b
+        → bit (bitOr kept (maskFrom (bit mask) width at)) j ≡ (a || b)
     both j p q = bit-of-both kept (maskFrom (bit mask) width at) j ∙ ap₂ _||_ p q
 
     pub kept-next : Kept mask n x width turn (at + turn) (bitOr kept (maskFrom (bit mask) width at))

@@ -75,7 +75,8 @@ pub width-range : (l : List ℕ) → (1 ≤ widthOf l) × (widthOf l ≤ 7)
 width-range l = week-or-day (eqb (getD l 1 0) 2)
 
 -- where a turn is all of its first days, every day counts
-pub whole-turn : (l : List ℕ) (turn : ℕ) → Turn l turn → turn ≡ widthOf l → (j : ℕ) → startDay l ≤ j → j < 36525 → dayCounts (ruleOf l) j ≡ true
+pub whole-turn : (l : List ℕ) (turn : ℕ) → Turn l turn → turn ≡ widthOf l → (j : ℕ) → startDay l ≤ j → j < 36525
+    → dayCounts (ruleOf l) j ≡ true
 whole-turn l turn t e j h g =
     let p : placeOf (widthOf l) (startDay l) j % turn < turn = mod-lt _ (omega (arith, e, width-range l .0)) in
     t .counts j h g ∙ lt-ltb _ (widthOf l) (omega arith)

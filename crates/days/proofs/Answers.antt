@@ -48,7 +48,8 @@ last-empty test low high h =
     rw e refl
 
 -- a day stands in its month
-pub holds-at : (d : ℕ) → d < 36525 → (Holds (localDate d .month) d) × (InMonth (localDate d .month) (localDate d .day)) × (d ≡ dayOf (localDate d .month) (localDate d .day))
+pub holds-at : (d : ℕ) → d < 36525
+    → (Holds (localDate d .month) d) × (InMonth (localDate d .month) (localDate d .day)) × (d ≡ dayOf (localDate d .month) (localDate d .day))
 holds-at d h =
     let i = local-date-holds d h in (
       record { month = i .last; from = omega (arith, i .low, i .whole); to = omega (arith, i .low, i .high, i .whole) },

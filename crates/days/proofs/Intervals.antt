@@ -97,7 +97,12 @@ module _ (l : List ℕ) (weekly : Bool) (kind : getD l 0 0 ≡ 4) (frequency : g
   unfolding ruleDay counts
   not-counted j e =
       is-rule j
-      ∙ simp (ap (λ (a : ℕ). eqb ((a - period (ruleOf l) (getD l 3 0 / 1440)) % getD l 2 0) 0) (period-is j) ∙ ap (λ (a : ℕ). eqb ((periodOf weekly j - a) % getD l 2 0) 0) (period-is (getD l 3 0 / 1440)) ∙ e, and-false)
+      ∙ simp (
+        ap (λ (a : ℕ). eqb ((a - period (ruleOf l) (getD l 3 0 / 1440)) % getD l 2 0) 0) (period-is j)
+            ∙ ap (λ (a : ℕ). eqb ((periodOf weekly j - a) % getD l 2 0) 0) (period-is (getD l 3 0 / 1440))
+            ∙ e,
+        and-false,
+      )
 
   pub from-start : (d : ℕ) → d ≤ getD l 3 0 / 1440 → Passed (dayHeld l) d (getD l 3 0 / 1440)
   from-start d h = record { rises = h; none = λ j a b t. before-start j b }

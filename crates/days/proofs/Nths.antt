@@ -96,7 +96,8 @@ module _ (test : ℕ → Bool) where
       (λ (t : test i ≡ true).
       let g : 1 + m < c = rw t at h in
       let d : c - 1 - m ≡ c - (1 + m) = omega arith in
-      rw (t, nthFrom) (rw (ne-eqb c 1 (omega arith), nthFrom) (nth-past (c - 1) j k (suc i) (omega arith) ∙ ap₂ (λ (x y : ℕ). nthFrom test x k y) d s)))
+      rw (t, nthFrom)
+      (rw (ne-eqb c 1 (omega arith), nthFrom) (nth-past (c - 1) j k (suc i) (omega arith) ∙ ap₂ (λ (x y : ℕ). nthFrom test x k y) d s)))
       (λ (f : test i ≡ false).
       let g : 0 + m < c = rw f at h in
       let d : c - m ≡ c - (0 + m) = omega arith in
@@ -146,7 +147,8 @@ module _ (test other : ℕ → Bool) where
   nth-along c zero i j e = omega arith
   nth-along c (suc k) i j e =
       let o = first-agrees k i j e in
-      let rest : (d : ℕ) → nthFrom test d k (suc i) + suc j ≡ nthFrom other d k (suc j) + suc i = λ d. nth-along d k (suc i) (suc j) (next-agrees k i j e) in
+      let rest : (d : ℕ) → nthFrom test d k (suc i) + suc j ≡ nthFrom other d k (suc j) + suc i =
+      λ d. nth-along d k (suc i) (suc j) (next-agrees k i j e) in
       by-first test c i (λ t n. omega (arith, nth-here test c k i t n, nth-here other c k j (sym o ∙ t) n))
       (λ t n. omega (arith, rest (c - 1), nth-on test c k i t n, nth-on other c k j (sym o ∙ t) n))
       (λ f. omega (arith, rest c, nth-later test c k i f, nth-later other c k j (sym o ∙ f)))

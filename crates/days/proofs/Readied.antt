@@ -80,9 +80,12 @@ module _ (l : List ℕ) (low end : ℕ) (h : low < end) (t : end ≤ 36525) wher
       rw (day-in l (localDate (end - 1) .month) (end - 1) n) (omega arith),
     )
 
-    pub found-up : (r : ℕ) → Least (dayHeld (readied l (localDate (end - 1) .month) (end - 1))) low (getD (readied l (localDate (end - 1) .month) (end - 1)) 14 0 + 1) r → Least (dayHeld l) low end r
+    pub found-up : (r : ℕ)
+        → Least (dayHeld (readied l (localDate (end - 1) .month) (end - 1))) low (getD (readied l (localDate (end - 1) .month) (end - 1)) 14 0 + 1) r
+        → Least (dayHeld l) low end r
     found-up r a =
-        let e : getD (readied l (localDate (end - 1) .month) (end - 1)) 14 0 + 1 ≡ end = omega (arith, day-in l (localDate (end - 1) .month) (end - 1) n) in
+        let e : getD (readied l (localDate (end - 1) .month) (end - 1)) 14 0 + 1 ≡ end =
+        omega (arith, day-in l (localDate (end - 1) .month) (end - 1) n) in
         least-same _ (dayHeld l) low end r (λ j b c. readied-held l (localDate (end - 1) .month) (end - 1) j) (rw e at a)
 
   module _ (n : length (readied l (localDate low .month) low) ≡ 16) where
@@ -93,7 +96,9 @@ module _ (l : List ℕ) (low end : ℕ) (h : low < end) (t : end ≤ 36525) wher
       omega arith,
     )
 
-    pub found-down : (r : ℕ) → Last (dayHeld (readied l (localDate low .month) low)) (getD (readied l (localDate low .month) low) 14 0) (end - 1 + 1) r → Last (dayHeld l) low end r
+    pub found-down : (r : ℕ)
+        → Last (dayHeld (readied l (localDate low .month) low)) (getD (readied l (localDate low .month) low) 14 0) (end - 1 + 1) r
+        → Last (dayHeld l) low end r
     found-down r a =
         let e : end - 1 + 1 ≡ end = omega arith in
         last-same _ (dayHeld l) low end r (λ j b c. readied-held l (localDate low .month) low j) (rw (day-in l (localDate low .month) low n, e) at a)

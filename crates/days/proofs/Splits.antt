@@ -20,7 +20,8 @@ use Rattle.frames.specs.declared.Rule.{Rule}
 use Rattle.days.specs.Steps.{dayCounts, dayPart, SetOf}
 
 -- a rule's interval: that of days or weeks with the day, that of months with the month
-by-frequency : (f : Rule) (start k n : ℕ) → start ≡ localDate (f .start / 1440) .month → InMonth k n → (a b : Bool) → eqb (f .frequency) 1 ≡ a
+by-frequency : (f : Rule) (start k n : ℕ) → start ≡ localDate (f .start / 1440) .month → InMonth k n → (a b : Bool)
+    → eqb (f .frequency) 1 ≡ a
     → eqb (f .frequency) 2 ≡ b
     → counts f (dayOf k n) ≡ (dayCounts f (dayOf k n) && monthCounts f start k)
 unfolding counts dayCounts monthCounts period
@@ -44,7 +45,8 @@ module _ (l : List ℕ) (k n : ℕ) (i : InMonth k n) where
       let f : Rule = ruleOf l in
       let d : ℕ = dayOf k n in
       rearranged (leb (f .start / 1440) d) (dayCounts f d) (monthCounts f (localDate (f .start / 1440) .month) k) (inSet f d && placed f d)
-      ∙ ap (λ (b : Bool). leb (f .start / 1440) d && (b && (inSet f d && placed f d))) (sym (counts-split f (localDate (f .start / 1440) .month) k n refl i))
+      ∙ ap (λ (b : Bool). leb (f .start / 1440) d && (b && (inSet f d && placed f d)))
+      (sym (counts-split f (localDate (f .start / 1440) .month) k n refl i))
 
   by-kind : (a b : Bool) → eqb (getD l 0 0) 3 ≡ a → eqb (getD l 0 0) 4 ≡ b
       → (monthPart l (startMonth l) k (dayOf k n) && dayPart l (dayOf k n)) ≡ dayHeld l (dayOf k n)
@@ -63,7 +65,8 @@ unfolding monthSet
 month-set-of l k set e =
     record {
       decides = λ n i.
-          ap (λ (b : Bool). b && dayPart l (dayOf k n)) (ap (λ (x : ℕ). bit x n) e ∙ month-bit (λ j. monthPart l (startMonth l) k (dayOf k j)) k n i)
+          ap (λ (b : Bool). b && dayPart l (dayOf k n))
+          (ap (λ (x : ℕ). bit x n) e ∙ month-bit (λ j. monthPart l (startMonth l) k (dayOf k j)) k n i)
           ∙ held-split l k n i;
     }
 

@@ -113,7 +113,8 @@ pub last-day : (k : ℕ) → k < 1200 → InMonth k (monthDays k)
 last-day k h = record { month = h; low = omega (arith, month-days-range k h .0); high = omega arith }
 
 -- no day of a month with an empty set is held
-pub none-held : (l : List ℕ) (k : ℕ) → k < 1200 → SetOf (dayPart l) (dayHeld l) k 0 → (j : ℕ) → monthFirst k ≤ j → j < monthFirst k + monthDays k
+pub none-held : (l : List ℕ) (k : ℕ) → k < 1200 → SetOf (dayPart l) (dayHeld l) k 0 → (j : ℕ) → monthFirst k ≤ j
+    → j < monthFirst k + monthDays k
     → dayHeld l j ≡ false
 none-held l k m s j a b =
     let n : ℕ = j - monthFirst k + 1 in

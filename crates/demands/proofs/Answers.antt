@@ -50,8 +50,12 @@ module _ (text p : List ℕ) (source : Source text p) where
   module _ (before : ℤ → ℤ → Bool) (asked : ℤ) (r : EvkFound) where
     pub answer-means : NearestBy before (load p) asked r → NearestFound before (MeantInstant text) asked r
     unfolding NearestBy
-    answer-means a = nearest-same before (SignedInstant (map frameOf fs)) (MeantInstant text) asked r text-means plan-means (rw (plan-taken text p source) at a)
+    answer-means a =
+        nearest-same before (SignedInstant (map frameOf fs)) (MeantInstant text) asked r text-means plan-means
+        (rw (plan-taken text p source) at a)
 
     pub meant-answer : NearestFound before (MeantInstant text) asked r → NearestBy before (load p) asked r
     unfolding NearestBy
-    meant-answer n = rw (plan-taken text p source) (nearest-same before (MeantInstant text) (SignedInstant (map frameOf fs)) asked r plan-means text-means n)
+    meant-answer n =
+        rw (plan-taken text p source)
+        (nearest-same before (MeantInstant text) (SignedInstant (map frameOf fs)) asked r plan-means text-means n)

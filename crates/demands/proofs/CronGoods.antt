@@ -47,14 +47,16 @@ module _ (low high : ℕ) where
   field-good f k l e w r = let a = held f l w r in mask-good low high (fieldHas f) k e (a .number) (a .from) (a .upto) (a .has)
 
 -- `*` has every number
-unrestricted-full : (f : Field) (k low full : ℕ) → eqb (maskFrom (fieldHas star) k low) full ≡ true → (restricted f || eqb (maskFrom (fieldHas f) k low) full) ≡ true
+unrestricted-full : (f : Field) (k low full : ℕ) → eqb (maskFrom (fieldHas star) k low) full ≡ true
+    → (restricted f || eqb (maskFrom (fieldHas f) k low) full) ≡ true
 unrestricted-full star k low full e = e
 unrestricted-full (list es) k low full e = refl
 
 abbrev flagsOf : Bool → Bool → ℕ
 flagsOf a b = cond a 1 0 + cond b 2 0
 
-flags-good : (a b x y : Bool) → (a || x) ≡ true → (b || y) ≡ true → (ltb (flagsOf a b) 4 && ((bit (flagsOf a b) 0 || x) && (bit (flagsOf a b) 1 || y))) ≡ true
+flags-good : (a b x y : Bool) → (a || x) ≡ true → (b || y) ≡ true
+    → (ltb (flagsOf a b) 4 && ((bit (flagsOf a b) 0 || x) && (bit (flagsOf a b) 1 || y))) ≡ true
 flags-good true true x y e f = refl
 flags-good true false x y e f = f
 flags-good false true x y e f = both e refl

@@ -48,7 +48,9 @@ module _ (text : List ℕ) (asked : ℤ) (r s : EvkFound) where
 module _ (text buffer left : List ℕ) (made : EvkCompiled) (answer : made ≡ compileAnswer (compile text (length buffer)))
     (kept : left ≡ leftIn buffer (compile text (length buffer))) (taken : made .number ≡ 0) (asked : ℤ) (r : EvkFound) where
   pub next-of-compiled : NextAnswer (take (made .length) left) asked r → NearestFound ltZ (MeantInstant text) asked r
-  next-of-compiled = next-means text (length buffer) (take (made .length) left) (compiled-bytes text buffer left made answer kept taken) asked r
+  next-of-compiled =
+      next-means text (length buffer) (take (made .length) left) (compiled-bytes text buffer left made answer kept taken) asked r
 
   pub previous-of-compiled : PreviousAnswer (take (made .length) left) asked r → NearestFound later (MeantInstant text) asked r
-  previous-of-compiled = previous-means text (length buffer) (take (made .length) left) (compiled-bytes text buffer left made answer kept taken) asked r
+  previous-of-compiled =
+      previous-means text (length buffer) (take (made .length) left) (compiled-bytes text buffer left made answer kept taken) asked r

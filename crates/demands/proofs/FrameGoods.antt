@@ -23,7 +23,8 @@ use Rattle.zone.specs.Zone.{bias, offsetInRange, leastOffset, greatestOffset, i
 use Rattle.demands.proofs.CronGoods.{cron-good}
 use Rattle.demands.proofs.RuleGoods.{rule-frame-good}
 
-shift-good : (minus : Bool) (n : ℕ) → cond minus (within 1 720 n) (leb n 840) ≡ true → offsetInRange (cond minus (bias - n) (bias + n)) ≡ true
+shift-good : (minus : Bool) (n : ℕ) → cond minus (within 1 720 n) (leb n 840) ≡ true
+    → offsetInRange (cond minus (bias - n) (bias + n)) ≡ true
 shift-good true n e =
     let h = within-range 1 720 n e .1 in range-within leastOffset greatestOffset (bias - n) (omega arith) (omega arith)
 shift-good false n e = let h = leb-true n 840 e in range-within leastOffset greatestOffset (bias + n) (omega arith) (omega arith)
@@ -43,7 +44,8 @@ frame-good : (c : Context) (f : Form) → formRefusal c f ≡ 0 → written f �
 unfolding frameGood frameOf inRange
 frame-good c (zone s) e w = offset-good s (taken c (zone s) e .range)
 frame-good c (change t s) e w =
-    let p = both-true (timeInRange t) (shiftInRange s) (taken c (change t s) e .range) in both (instant-good t (p .0)) (offset-good s (p .1))
+    let p = both-true (timeInRange t) (shiftInRange s) (taken c (change t s) e .range) in
+    both (instant-good t (p .0)) (offset-good s (p .1))
 frame-good c (cron m h d mo wd) e w = cron-good m h d mo wd (taken c (cron m h d mo wd) e .range) w
 frame-good c (rule t ps) e w = let a = taken c (rule t ps) e in rule-frame-good t ps (a .range) (a .parts) (a .start) w
 frame-good c (extra t) e w = minute-good t (taken c (extra t) e .range)

@@ -51,7 +51,8 @@ no-positions none e = refl
 no-positions (some ns) e = absurd (false≢true (sym e))
 
 -- a weekly rule has a weekday
-weekly-days : (es : Option (List Entry)) (first : ℕ) → givenPasses (listed entryGood) es ≡ true → ordinals es ≡ false → ltb 0 (weekdaysOf weekly es first) ≡ true
+weekly-days : (es : Option (List Entry)) (first : ℕ) → givenPasses (listed entryGood) es ≡ true → ordinals es ≡ false
+    → ltb 0 (weekdaysOf weekly es first) ≡ true
 unfolding weekdaysOf
 weekly-days none first l e = not-zero (2 ^ localWeekday first) (power-limits (localWeekday first))
 weekly-days (some es) first l e =
@@ -64,11 +65,13 @@ either-limit true true c e = e
 either-limit true false c e = refl
 either-limit false b c e = refl
 
-monthly-days : (first : ℕ) (es : Option (List Entry)) (ns : Option (List Signed)) → givenPasses (listed entryGood) es ≡ true → givenPasses (listed dayNumberInRange) ns ≡ true
+monthly-days : (first : ℕ) (es : Option (List Entry)) (ns : Option (List Signed)) → givenPasses (listed entryGood) es ≡ true
+    → givenPasses (listed dayNumberInRange) ns ≡ true
     → (eqb (weekdaysOf monthly es first) 0 && (noLimit (daysOf monthly es ns first) && noLimit (ordinalsFor es))) ≡ false
 unfolding weekdaysOf daysOf
 monthly-days first (some es) ns l d =
-    either-limit (eqb (maskFrom (λ w. anyOf (isPlain w) es) 7 0) 0) (noLimit (daysOf monthly (some es) ns first)) (noLimit (ordinalEnds es)) (entries-limit es l)
+    either-limit (eqb (maskFrom (λ w. anyOf (isPlain w) es) 7 0) 0) (noLimit (daysOf monthly (some es) ns first)) (noLimit (ordinalEnds es))
+    (entries-limit es l)
 monthly-days first none (some ns) l d = rw (ends-limit ns d) refl
 monthly-days first none none l d = rw (power-limits (localDate first .day)) refl
 
@@ -77,7 +80,8 @@ module _ (g : Given) (first : ℕ) (r : Rule) (good : Good g) where
   unfolding clashing daysOf
   frequency-good daily a c =
       let p = neither (ordinals (g .days)) (isGiven (g .positions)) c in
-      daily-good r (a .frequency) ∙ rw (a .ordinals, a .positions) (both (no-ordinals (g .days) (p .0)) (no-positions (g .positions) (p .1)))
+      daily-good r (a .frequency)
+      ∙ rw (a .ordinals, a .positions) (both (no-ordinals (g .days) (p .0)) (no-positions (g .positions) (p .1)))
   frequency-good weekly a c =
       let p = neither (ordinals (g .days)) (isGiven (g .positions) || isGiven (g .monthDays)) c in
       let q = neither (isGiven (g .positions)) (isGiven (g .monthDays)) (p .1) in

@@ -23,7 +23,9 @@ module _ (low high : ℕ) where
   pub power-only : (n : ℕ) → low ≤ n → n ≤ high → onlyBits low high (2 ^ n) ≡ true
   power-only n l h =
       let e : n - low + low ≡ n = omega arith in
-      only (2 ^ n) (subst (λ (x : ℕ). 2 ^ low ∣ x) (sym (pow-add 2 (n - low) low) ∙ ap (λ (x : ℕ). 2 ^ x) e) (dvd-mul-left (2 ^ low) (2 ^ (n - low)))) (pow-lt (omega arith))
+      only (2 ^ n)
+      (subst (λ (x : ℕ). 2 ^ low ∣ x) (sym (pow-add 2 (n - low) low) ∙ ap (λ (x : ℕ). 2 ^ x) e) (dvd-mul-left (2 ^ low) (2 ^ (n - low))))
+      (pow-lt (omega arith))
 
   -- the k numbers from low on end with high
   module _ (test : ℕ → Bool) (k : ℕ) (e : low + k ≡ high + 1) where

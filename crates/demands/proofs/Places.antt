@@ -35,20 +35,23 @@ weekdays-only monthly none first = refl
 -- a list of month days or positions
 numbers-only : (ns : List Signed) → pairGood (endsOf ns) ≡ true
 unfolding endsOf
-numbers-only ns = both (mask-only 1 31 (λ n. anyOf (signedAs false n) ns) 31 refl) (mask-only 1 31 (λ n. anyOf (signedAs true n) ns) 31 refl)
+numbers-only ns =
+    both (mask-only 1 31 (λ n. anyOf (signedAs false n) ns) 31 refl) (mask-only 1 31 (λ n. anyOf (signedAs true n) ns) 31 refl)
 
 positions-only : (ns : Option (List Signed)) → pairGood (positionsFor ns) ≡ true
 positions-only none = refl
 positions-only (some ns) = numbers-only ns
 
-days-only : (f : Frequency) (es : Option (List Entry)) (ns : Option (List Signed)) (first : ℕ) → first < windowDays → pairGood (daysOf f es ns first) ≡ true
+days-only : (f : Frequency) (es : Option (List Entry)) (ns : Option (List Signed)) (first : ℕ) → first < windowDays
+    → pairGood (daysOf f es ns first) ≡ true
 unfolding daysOf
 days-only daily es none first h = refl
 days-only daily es (some ns) first h = numbers-only ns
 days-only weekly es ns first h = refl
 days-only monthly es (some ns) first h = numbers-only ns
 days-only monthly (some es) none first h = refl
-days-only monthly none none first h = both (power-only 1 31 (localDate first .day) (place-low false first h) (place-high false first h)) refl
+days-only monthly none none first h =
+    both (power-only 1 31 (localDate first .day) (place-low false first h) (place-high false first h)) refl
 
 module _ (minus : Bool) (es : List Entry) where
   ordinal-only : (k : ℕ) → 1 ≤ k → k ≤ 5 → onlyBits 0 6 (ordinalMask (ordinalsOf minus es) k) ≡ true

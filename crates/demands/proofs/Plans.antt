@@ -41,4 +41,5 @@ module _ (text buffer left : List ℕ) (made : EvkCompiled) (answer : made ≡ c
   -- and `evk_check` takes them
   pub compiled-checked : made .number ≡ 0 → checkAnswer (take (made .length) left) ≡ record { number = 0; line = 0 }
   unfolding checkAnswer
-  compiled-checked z = rw (plan-taken text (take (made .length) left) (plan-source text (length buffer) (take (made .length) left) (compiled-bytes z))) refl
+  compiled-checked z =
+      rw (plan-taken text (take (made .length) left) (plan-source text (length buffer) (take (made .length) left) (compiled-bytes z))) refl

@@ -62,7 +62,8 @@ module _ (n : ℕ) (c : Context) where
     abbrev onTest : Form → Bool → Sheet
     onTest f t = elim t [ true ↦ following f (rest (contextAfter c f)) | false ↦ refused (lineRefusal c line) (n + 1) ]
 
-    on-test : (f : Form) (t : Bool) → formOf line ≡ some f → eqb (lineRefusal c line) 0 ≡ t → Reads (n + 1) (contextAfter c f) more (rest (contextAfter c f))
+    on-test : (f : Form) (t : Bool) → formOf line ≡ some f → eqb (lineRefusal c line) 0 ≡ t
+        → Reads (n + 1) (contextAfter c f) more (rest (contextAfter c f))
         → Reads n c (line ∷ more) (onTest f t)
     on-test f true o t others =
         on-rest f (rest (contextAfter c f)) (record { bytes = line; form = o; fine = line-fine f o (eqb-true (lineRefusal c line) 0 t) }) others
@@ -99,7 +100,8 @@ module _ (text : List ℕ) where
   by-length : (t : Bool) → tooLong text ≡ t → Sound (elim t [ true ↦ refused 1 0 | false ↦ lines ])
   unfolding linesIn
   by-length true t = omega arith
-  by-length false t = sound (linesOf text .whole) lines (omega (arith, short text t)) (reads (linesOf text .whole) 0 first (linesOf text .tail))
+  by-length false t =
+      sound (linesOf text .whole) lines (omega (arith, short text t)) (reads (linesOf text .whole) 0 first (linesOf text .tail))
 
   sheet-sound : Sound (readSheet text)
   unfolding readSheet

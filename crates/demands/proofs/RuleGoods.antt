@@ -47,7 +47,8 @@ module _ (start : ℕ) (h : start < windowMinutes) where
   last-good test (some t) most r k = record { inside = minute-in-window t r; after = leb-true start (minuteOf t) k }
   last-good test none none r k = record { inside = omega arith; after = omega arith }
   last-good test none (some c) r k =
-      let first : ℕ = start / dayMinutes in count-last (nthFrom test c (windowDays - first) first) (nth-lies test c (windowDays - first) first .0)
+      let first : ℕ = start / dayMinutes in
+      count-last (nthFrom test c (windowDays - first) first) (nth-lies test c (windowDays - first) first .0)
 
 -- parts that go together go with the frequency
 by-frequency : (g : Given) (f : Option Frequency) → byFrequency f g ≡ true → clashing (Option·getD f daily) g ≡ false
@@ -78,7 +79,9 @@ module _ (t : Time) (ps : List Part) (inside : inRange (rule t ps) ≡ true) (go
 
   last-in : Last start (lastOf g start)
   unfolding lastOf
-  last-in = last-good start in-window (occursOn (Option·getD (g .frequency) daily) g (start / dayMinutes)) (g .until) (g .count) (good .until) (start-good .1)
+  last-in =
+      last-good start in-window (occursOn (Option·getD (g .frequency) daily) g (start / dayMinutes)) (g .until) (g .count) (good .until)
+      (start-good .1)
 
   pub rule-frame-good : ruleGood (ruleFrame g start) ≡ true
   unfolding ruleGood ruleFrame together

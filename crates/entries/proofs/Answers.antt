@@ -24,7 +24,8 @@ placeIn : Days → ℕ
 placeIn (Days.Is n d) = d .at
 placeIn Days.Not = 0
 
-pub entry-marked : (m : Weekdays) (o : Option (Entry × ℕ)) (marks : Weekdays) (c : Cursor) → Days.Is marks c ≡ entryMarks m (entryAs o) → MarkedEntry m o marks c
+pub entry-marked : (m : Weekdays) (o : Option (Entry × ℕ)) (marks : Weekdays) (c : Cursor) → Days.Is marks c ≡ entryMarks m (entryAs o)
+    → MarkedEntry m o marks c
 unfolding marksIn placeIn
 entry-marked m none marks c e = let z : _≡_ {A = ℕ} 0 1 = cc in absurd (omega arith)
 entry-marked m (some (plain w, f)) marks c e =

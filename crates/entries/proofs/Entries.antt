@@ -86,12 +86,18 @@ module _ (p : List ℕ) where
 
     form-plain : length p ≡ 2 → entryOf p ≡ some (plain w)
     unfolding entryOf
-    form-plain l = rw (word-place weekdayWords (back p) (some w) e, lt-ltb w 7 last-below, eq-eqb (length (front p)) 0 (omega (arith, front-length))) refl
+    form-plain l =
+        rw (word-place weekdayWords (back p) (some w) e, lt-ltb w 7 last-below, eq-eqb (length (front p)) 0 (omega (arith, front-length)))
+        refl
 
     form-ordinal : 2 < length p → entryOf p ≡ made (λ n. ordinal n w) (signedOf (front p))
     unfolding entryOf ordinalEntry
     form-ordinal l =
-        rw (word-place weekdayWords (back p) (some w) e, lt-ltb w 7 last-below, ne-eqb (length (front p)) 0 (λ (z : length (front p) ≡ 0). omega (arith, front-length))) (by-signed (signedOf (front p)))
+        rw (
+          word-place weekdayWords (back p) (some w) e,
+          lt-ltb w 7 last-below,
+          ne-eqb (length (front p)) 0 (λ (z : length (front p) ≡ 0). omega (arith, front-length)),
+        ) (by-signed (signedOf (front p)))
       where
         by-signed : (o : Option Signed) → ordinalEntry o w ≡ made (λ n. ordinal n w) o
         by-signed none = refl
@@ -125,7 +131,8 @@ module _ (s : List ℕ) (at : ℕ) (p tail : List ℕ) (here : drop at s ≡ p +
       rw n at (one-tied s e (drop (e - at) p) tail g weekdayWords weekdays-apart (end-weekdays ends))
 
   -- before a weekday at the end
-  front-tied : (w : ℕ) → wordOf weekdayWords (back p) ≡ some w → Tied (signedOf (front p)) (signedRead (signedAt s at)) at (at + (length p - 2))
+  front-tied : (w : ℕ) → wordOf weekdayWords (back p) ≡ some w
+      → Tied (signedOf (front p)) (signedRead (signedAt s at)) at (at + (length p - 2))
   front-tied w e =
       let f : drop at s ≡ front p ++ (back p ++ tail) = cut-here (front p) (back p) tail here (sym (take-append-drop (length p - 2) p)) in
       rw (front-length p) at (signed-tied s at (back p ++ tail) (like-stops (back p) tail (last-like p w e)) (front p) f)
@@ -183,14 +190,19 @@ module _ (s : List ℕ) (at : ℕ) (p tail : List ℕ) (here : drop at s ≡ p +
         by-last (some w) h =
             let t = before-last w h in
             let i = t .inside (n, e) refl in
-            let d : e ≡ at + (length p - 2) → ⊥ = λ m. let c : some w ≡ none = sym h ∙ ap (wordOf weekdayWords) (sym (at-last m)) ∙ f in let y : _≡_ {A = ℕ} 0 1 = cc in omega arith in
-            form-ordinal p w h (by-order 2 (length p) (λ l. l) (λ l. absurd (d (omega (arith, i, last-fits p w h))))) ∙ ap (made (λ n. ordinal n w)) (t .whole ∙ whole-part (n, e) _ d)
+            let d : e ≡ at + (length p - 2) → ⊥ =
+            λ m. let c : some w ≡ none = sym h
+            ∙ ap (wordOf weekdayWords) (sym (at-last m))
+            ∙ f in let y : _≡_ {A = ℕ} 0 1 = cc in omega arith in
+            form-ordinal p w h (by-order 2 (length p) (λ l. l) (λ l. absurd (d (omega (arith, i, last-fits p w h)))))
+            ∙ ap (made (λ n. ordinal n w)) (t .whole ∙ whole-part (n, e) _ d)
     ordinal-form (some w) f =
         let d = word-tested weekdayLike weekdayWords (drop (e - at) p) w weekdays-like f in
         let m : e ≡ at + (length p - 2) = omega (arith, inside, like-length (drop (e - at) p) (d .0), length-drop (e - at) p) in
         let h : wordOf weekdayWords (back p) ≡ some w = ap (wordOf weekdayWords) (sym (at-last m)) ∙ f in
         let r : signedOf (front p) ≡ some n = before-last w h .whole ∙ whole-all (n, e) _ m in
-        form-ordinal p w h (by-order 2 (length p) (λ l. l) (λ l. absurd (empty r (omega (arith, front-length p))))) ∙ ap (made (λ n. ordinal n w)) r
+        form-ordinal p w h (by-order 2 (length p) (λ l. l) (λ l. absurd (empty r (omega (arith, front-length p)))))
+        ∙ ap (made (λ n. ordinal n w)) r
       where
         empty : signedOf (front p) ≡ some n → length (front p) ≡ 0 → ⊥
         empty r l = by-list (front p) l r
@@ -207,7 +219,8 @@ module _ (s : List ℕ) (at : ℕ) (p tail : List ℕ) (here : drop at s ≡ p +
   pub entry-tied : Tied (entryOf p) (entryRead s at) at (at + length p)
   entry-tied = by-plain (oneAt weekdayWords s at) refl
     where
-      by-signed : (o : Option (Signed × ℕ)) → signedRead (signedAt s at) ≡ o → oneAt weekdayWords s at ≡ none → Tied (entryOf p) (entryRead s at) at (at + length p)
+      by-signed : (o : Option (Signed × ℕ)) → signedRead (signedAt s at) ≡ o → oneAt weekdayWords s at ≡ none
+          → Tied (entryOf p) (entryRead s at) at (at + length p)
       by-signed none g q = not-case q g
       by-signed (some r) g q = ordinal-case (r .0) (r .1) g q
 
@@ -223,4 +236,5 @@ module _ (s : List ℕ) (at : ℕ) (p tail : List ℕ) (here : drop at s ≡ p +
 
   pub numbers-tied : Tied (eachOf signedOf (pieces 44 p)) (numbersRead s at) at (at + length p)
   unfolding numbersRead
-  numbers-tied = all-tied s (λ (e : ℕ). signedRead (signedAt s e)) 44 signedOf End comma (λ at p tail here ends. signed-tied s at tail (end-stops ends) p here) at p tail here ends other
+  numbers-tied =
+      all-tied s (λ (e : ℕ). signedRead (signedAt s e)) 44 signedOf End comma (λ at p tail here ends. signed-tied s at tail (end-stops ends) p here) at p tail here ends other

@@ -34,7 +34,8 @@ numbers-by : (o : Option (List Signed × ℕ)) → takenAs takeNumber numbersIs 
 numbers-by none = refl
 numbers-by (some r) = ap (λ (m : Numbers). numbersIs m (r .1)) (numbers-marked (r .0))
 
-pub numbers-taken : (s : List ℕ) (at : ℕ) → takenAs takeNumber numbersIs Listed.Not noNumbers (listAt (λ (e : ℕ). signedRead (signedAt s e)) 44 s (length s + 1) at) ≡ numbersAs (numbersRead s at)
+pub numbers-taken : (s : List ℕ) (at : ℕ)
+    → takenAs takeNumber numbersIs Listed.Not noNumbers (listAt (λ (e : ℕ). signedRead (signedAt s e)) 44 s (length s + 1) at) ≡ numbersAs (numbersRead s at)
 unfolding numbersRead
 numbers-taken s at = numbers-by (listAt (λ (e : ℕ). signedRead (signedAt s e)) 44 s (length s + 1) at)
 
@@ -43,10 +44,12 @@ all-weekdays [] empty = refl
 all-weekdays (plain w ∷ es) (with h all) = rw (lt-ltb w 7 h) (all-weekdays es all)
 all-weekdays (ordinal n w ∷ es) (with h all) = rw (lt-ltb w 7 h) (all-weekdays es all)
 
-days-by : (o : Option (List Entry × ℕ)) → ((es : List Entry) (e : ℕ) → o ≡ some (es, e) → Every (λ x. entryWeekday x < 7) es) → takenAs takeEntry daysIs Days.Not noEntries o ≡ daysAs o
+days-by : (o : Option (List Entry × ℕ)) → ((es : List Entry) (e : ℕ) → o ≡ some (es, e) → Every (λ x. entryWeekday x < 7) es)
+    → takenAs takeEntry daysIs Days.Not noEntries o ≡ daysAs o
 days-by none h = refl
 days-by (some r) h = ap (λ (m : Weekdays). daysIs m (r .1)) (entries-marked (r .0) (all-weekdays (r .0) (h (r .0) (r .1) refl)))
 
-pub days-taken : (s : List ℕ) (at : ℕ) → takenAs takeEntry daysIs Days.Not noEntries (listAt (entryRead s) 44 s (length s + 1) at) ≡ daysAs (daysRead s at)
+pub days-taken : (s : List ℕ) (at : ℕ)
+    → takenAs takeEntry daysIs Days.Not noEntries (listAt (entryRead s) 44 s (length s + 1) at) ≡ daysAs (daysRead s at)
 unfolding daysRead
 days-taken s at = days-by (listAt (entryRead s) 44 s (length s + 1) at) (days-weekdays s at)

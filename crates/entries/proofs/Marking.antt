@@ -32,7 +32,8 @@ use Rattle.entries.specs.declared.weekdays.Weekdays.{Weekdays}
 use Rattle.entries.proofs.Setting.{setOne, isAt, Between, setAll, set-mask}
 
 -- tests that agree on what passes another agree of lists
-any-same : {A : Type 0} (good f g : A → Bool) → ((x : A) → good x ≡ true → f x ≡ g x) → (xs : List A) → allOf good xs ≡ true → anyOf f xs ≡ anyOf g xs
+any-same : {A : Type 0} (good f g : A → Bool) → ((x : A) → good x ≡ true → f x ≡ g x) → (xs : List A) → allOf good xs ≡ true
+    → anyOf f xs ≡ anyOf g xs
 any-same good f g e [] a = refl
 any-same good f g e (x ∷ xs) a = let b = both-true (good x) _ a in rw (e x (b .0), any-same good f g e xs (b .1)) refl
 
@@ -84,7 +85,8 @@ numbers-over : (m : Numbers) (ns : List Signed) → overAll takeNumber m ns
     ≡ record { given = m .given; good = m .good && allOf dayNumberInRange ns; front = setAll (numberPlace false) (m .front) ns; back = setAll (numberPlace true) (m .back) ns }
 unfolding overAll
 numbers-over m [] = rw (and-true (m .good)) refl
-numbers-over m (n ∷ ns) = numbers-over (takeNumber m n) ns ∙ rw (number-step m n, and-assoc (m .good) (dayNumberInRange n) (allOf dayNumberInRange ns)) refl
+numbers-over m (n ∷ ns) =
+    numbers-over (takeNumber m n) ns ∙ rw (number-step m n, and-assoc (m .good) (dayNumberInRange n) (allOf dayNumberInRange ns)) refl
 
 module _ (minus : Bool) where
   number-between : (n : Signed) → Between 1 32 (numberPlace minus n)
@@ -104,12 +106,14 @@ module _ (minus : Bool) where
       by-test true d = ne-eqb i (n .number) (λ e. d (sym e))
       by-test false d = refl
 
-      by-same : (b : Bool) → eqb (n .number) i ≡ b → isAt i (cond (within 1 31 (n .number) && signIs minus (n .minus)) (some (n .number)) none) ≡ (signIs minus (n .minus) && eqb (n .number) i)
+      by-same : (b : Bool) → eqb (n .number) i ≡ b
+          → isAt i (cond (within 1 31 (n .number) && signIs minus (n .minus)) (some (n .number)) none) ≡ (signIs minus (n .minus) && eqb (n .number) i)
       by-same true e =
           let v : n .number ≡ i = eqb-true (n .number) i e in
           rw (e, le-leb 1 (n .number) (omega arith), le-leb (n .number) 31 (omega arith)) (by-sign (signIs minus (n .minus)) v)
       by-same false e =
-          rw (e, and-false (signIs minus (n .minus))) (by-test (within 1 31 (n .number) && signIs minus (n .minus)) (eqb-false (n .number) i e))
+          rw (e, and-false (signIs minus (n .minus)))
+          (by-test (within 1 31 (n .number) && signIs minus (n .minus)) (eqb-false (n .number) i e))
 
   numbers-end : (ns : List Signed) → setAll (numberPlace minus) 0 ns ≡ maskFrom (λ i. anyOf (signedAs minus i) ns) 31 1
   numbers-end ns =
@@ -180,7 +184,12 @@ unfolding overAll
 entries-over m [] a = rw (and-true (m .good), or-false (m .ordinal)) refl
 entries-over m (x ∷ es) a =
     let w = both-true (weekdayWritten x) _ a in
-    entries-over (takeEntry m x) es (w .1) ∙ rw (entry-step m x (w .0), and-assoc (m .good) (entryInRange x) (allOf entryInRange es), or-assoc (m .ordinal) (hasOrdinal x) (anyOf hasOrdinal es)) refl
+    entries-over (takeEntry m x) es (w .1)
+    ∙ rw (
+      entry-step m x (w .0),
+      and-assoc (m .good) (entryInRange x) (allOf entryInRange es),
+      or-assoc (m .ordinal) (hasOrdinal x) (anyOf hasOrdinal es),
+    ) refl
 
 plain-between : (x : Entry) → Between 0 7 (plainPlace x)
 unfolding plainPlace
@@ -195,7 +204,8 @@ plain-at i (ordinal n w) e = refl
 plains : (es : List Entry) → allOf weekdayWritten es ≡ true → setAll plainPlace 0 es ≡ maskFrom (λ w. anyOf (isPlain w) es) 7 0
 plains es a =
     set-mask plainPlace 0 7 (omega arith) plain-between 7 refl es
-    ∙ mask-from-same (λ i. anyOf (λ x. isAt i (plainPlace x)) es) (λ w. anyOf (isPlain w) es) 7 0 (λ i l h. any-same weekdayWritten (λ x. isAt i (plainPlace x)) (isPlain i) (λ x e. plain-at i x e) es a)
+    ∙ mask-from-same (λ i. anyOf (λ x. isAt i (plainPlace x)) es) (λ w. anyOf (isPlain w) es) 7 0
+    (λ i l h. any-same weekdayWritten (λ x. isAt i (plainPlace x)) (isPlain i) (λ x e. plain-at i x e) es a)
 
 module _ (minus : Bool) where
   ordinal-between : (x : Entry) → Between 0 40 (ordinalPlace minus x)
@@ -205,7 +215,8 @@ module _ (minus : Bool) where
       some-between 0 40 (ordinalBit (n .number) w) (within 1 5 (n .number) && signIs minus (n .minus)) (λ e. let r = within-range 1 5 (n .number) (both-true (within 1 5 (n .number)) _ e .0) in (omega arith, omega (arith, r)))
 
   -- bit i stands for weekday i % 8 of ordinal 5 - i / 8
-  ordinal-at : (i : ℕ) → i < 40 → (x : Entry) → weekdayWritten x ≡ true → isAt i (ordinalPlace minus x) ≡ isOrdinal minus (5 - i / 8) (i % 8) x
+  ordinal-at : (i : ℕ) → i < 40 → (x : Entry) → weekdayWritten x ≡ true
+      → isAt i (ordinalPlace minus x) ≡ isOrdinal minus (5 - i / 8) (i % 8) x
   unfolding ordinalPlace
   ordinal-at i l (plain w) e = refl
   ordinal-at i l (ordinal n w) e = by-weekday (eqb w (i % 8)) refl
@@ -233,13 +244,15 @@ module _ (minus : Bool) where
           let v : k ≡ 5 - i / 8 = eqb-true _ _ f in
           rw (le-leb 1 k (omega arith), le-leb k 5 (omega arith)) (by-sign (signIs minus (n .minus)) (omega arith))
       by-number false f q =
-          elsewhere (within 1 5 k && signIs minus (n .minus)) (λ t g. eqb-false k (5 - i / 8) f (omega (arith, in-range (signIs minus (n .minus)) t)))
+          elsewhere (within 1 5 k && signIs minus (n .minus))
+          (λ t g. eqb-false k (5 - i / 8) f (omega (arith, in-range (signIs minus (n .minus)) t)))
 
       by-weekday : (b : Bool) → eqb w (i % 8) ≡ b
           → isAt i (cond (within 1 5 k && signIs minus (n .minus)) (some (ordinalBit k w)) none) ≡ (eqb w (i % 8) && (eqb k (5 - i / 8) && signIs minus (n .minus)))
       by-weekday true f = rw f (by-number (eqb k (5 - i / 8)) refl (eqb-true _ _ f))
       by-weekday false f =
-          rw f (elsewhere (within 1 5 k && signIs minus (n .minus)) (λ t (g : ordinalBit k w ≡ i). eqb-false w (i % 8) f (omega (arith, in-range (signIs minus (n .minus)) t, small))))
+          rw f
+          (elsewhere (within 1 5 k && signIs minus (n .minus)) (λ t (g : ordinalBit k w ≡ i). eqb-false w (i % 8) f (omega (arith, in-range (signIs minus (n .minus)) t, small))))
 
   -- bit i of the five masks in one number
   byte-bit : (g j w : ℕ) → j < 5 → w < 8 → bit g (8 * j + w) ≡ bit (ordinalMask g (5 - j)) w
@@ -257,7 +270,8 @@ module _ (minus : Bool) where
       let b = both-true (ltb v 7) _ a in
       rw (ne-eqb v w (λ (q : v ≡ w). omega (arith, ltb-true v 7 (b .0)))) (no-eighth k w es (b .1) h)
 
-  group-bit : (es : List Entry) (i : ℕ) → allOf weekdayWritten es ≡ true → i < 40 → anyOf (isOrdinal minus (5 - i / 8) (i % 8)) es ≡ bit (ordinalsOf minus es) i
+  group-bit : (es : List Entry) (i : ℕ) → allOf weekdayWritten es ≡ true → i < 40
+      → anyOf (isOrdinal minus (5 - i / 8) (i % 8)) es ≡ bit (ordinalsOf minus es) i
   group-bit es i a l =
       let e : 8 * (i / 8) + i % 8 ≡ i = omega arith in
       sym
@@ -269,7 +283,8 @@ module _ (minus : Bool) where
   group-below : (es : List Entry) → ordinalsOf minus es < 2 ^ 40
   unfolding ordinalsOf
   group-below es =
-      let small : (k : ℕ) → maskFrom (λ w. anyOf (isOrdinal minus k w) es) 7 0 < 2 ^ (0 + 7) = λ k. mask-from-below (λ w. anyOf (isOrdinal minus k w) es) 7 0 in
+      let small : (k : ℕ) → maskFrom (λ w. anyOf (isOrdinal minus k w) es) 7 0 < 2 ^ (0 + 7) =
+      λ k. mask-from-below (λ w. anyOf (isOrdinal minus k w) es) 7 0 in
       omega (arith, small 1, small 2, small 3, small 4, small 5)
 
   groups : (es : List Entry) → allOf weekdayWritten es ≡ true → setAll (ordinalPlace minus) 0 es ≡ ordinalsOf minus es

@@ -19,7 +19,8 @@ module _ (s : List ℕ) (at : ℕ) where
   unfolding entryRead
   entry-plain k e q = rw (entryRead, q) refl
 
-  pub entry-ordinal : (n : Signed) (e : ℕ) → oneAt weekdayWords s at ≡ none → signedRead (signedAt s at) ≡ some (n, e) → entryRead s at ≡ madeRead (ordinal n) (oneAt weekdayWords s e)
+  pub entry-ordinal : (n : Signed) (e : ℕ) → oneAt weekdayWords s at ≡ none → signedRead (signedAt s at) ≡ some (n, e)
+      → entryRead s at ≡ madeRead (ordinal n) (oneAt weekdayWords s e)
   unfolding entryRead
   entry-ordinal n e q g = rw (entryRead, q, g) refl
 
@@ -39,7 +40,8 @@ module _ (s : List ℕ) (at : ℕ) where
   unfolding EntryRead
   entry-read = by-plain (oneAt weekdayWords s at) refl
     where
-      by-signed : oneAt weekdayWords s at ≡ none → (o : Option (Signed × ℕ)) → signedRead (signedAt s at) ≡ o → Reads EntryRead (entryRead s at)
+      by-signed : oneAt weekdayWords s at ≡ none → (o : Option (Signed × ℕ)) → signedRead (signedAt s at) ≡ o
+          → Reads EntryRead (entryRead s at)
       by-signed q none g = rw (entry-not s at q g) (read-none EntryRead)
       by-signed q (some r) g =
           rw (entry-ordinal s at (r .0) (r .1) q g)
@@ -47,7 +49,8 @@ module _ (s : List ℕ) (at : ℕ) where
 
       by-plain : (o : Option (ℕ × ℕ)) → oneAt weekdayWords s at ≡ o → Reads EntryRead (entryRead s at)
       by-plain none q = by-signed q (signedRead (signedAt s at)) refl
-      by-plain (some r) q = rw (entry-plain s at (r .0) (r .1) q) (read-some EntryRead (plain (r .0)) (r .1) (weekday at (r .0) (r .1) (omega arith) q))
+      by-plain (some r) q =
+          rw (entry-plain s at (r .0) (r .1) q) (read-some EntryRead (plain (r .0)) (r .1) (weekday at (r .0) (r .1) (omega arith) q))
 
 pub entry-after : (s : List ℕ) (at : ℕ) (x : Entry) (e : ℕ) → entryRead s at ≡ some (x, e) → at ≤ e
 unfolding EntryRead
@@ -66,4 +69,5 @@ days-weekdays s at es e q = days-read s at es e q .1
 
 pub numbers-after : (s : List ℕ) (at : ℕ) (ns : List Signed) (e : ℕ) → numbersRead s at ≡ some (ns, e) → at ≤ e
 unfolding numbersRead
-numbers-after s at ns e q = list-read (λ n. Unit {0}) (λ (f : ℕ). signedRead (signedAt s f)) 44 s (λ f x e q. (signed-after s f x e q, tt)) (length s + 1) at ns e q .0
+numbers-after s at ns e q =
+    list-read (λ n. Unit {0}) (λ (f : ℕ). signedRead (signedAt s f)) 44 s (λ f x e q. (signed-after s f x e q, tt)) (length s + 1) at ns e q .0

@@ -74,4 +74,6 @@ module _ {A : Type 0} (place : A → Option ℕ) where
         ∙ sym (bit-mask-from (λ i. anyOf (λ x. isAt i (place x)) xs) k low i ∙ same i l))
       where
         same : (i : ℕ) → i < high → (leb low i && ltb i (low + k) && anyOf (λ x. isAt i (place x)) xs) ≡ anyOf (λ x. isAt i (place x)) xs
-        same i l = by-order i low (λ h. rw (lt-leb low i h, none-low xs i h) refl) (λ h. rw (le-leb low i h, lt-ltb i (low + k) (omega arith)) refl)
+        same i l =
+            by-order i low (λ h. rw (lt-leb low i h, none-low xs i h) refl)
+            (λ h. rw (le-leb low i h, lt-ltb i (low + k) (omega arith)) refl)

@@ -63,7 +63,8 @@ module _ (fs : List Frame) (good : zoneGood (planZone fs) ≡ true) where
             (ltb-true _ _ (sym (in-order (s .inside) i (s .is) (n .is)) ∙ (rw (s .becomes) b)));
       }
 
-  previous-signed : (asked : ℤ) (i : ℕ) → Previous (PlanInstant fs) (biasInstant asked) i → Nearest later (SignedInstant fs) asked (unbiasInstant i)
+  previous-signed : (asked : ℤ) (i : ℕ) → Previous (PlanInstant fs) (biasInstant asked) i
+      → Nearest later (SignedInstant fs) asked (unbiasInstant i)
   previous-signed asked i n =
       record {
         is = as-signed i (n .is);
@@ -95,7 +96,8 @@ pub next-edge : (plan : List ℕ) (asked : ℤ) (a : Answer) → NextIn plan (bi
 unfolding NextIn NextAnswer
 next-edge plan asked a = next-by (load plan) (taken-good plan) asked a
 
-pub previous-edge : (plan : List ℕ) (asked : ℤ) (a : Answer) → PreviousIn plan (biasInstant asked) a → PreviousAnswer plan asked (answerAs a)
+pub previous-edge : (plan : List ℕ) (asked : ℤ) (a : Answer) → PreviousIn plan (biasInstant asked) a
+    → PreviousAnswer plan asked (answerAs a)
 unfolding PreviousIn PreviousAnswer
 previous-edge plan asked a = previous-by (load plan) (taken-good plan) asked a
 

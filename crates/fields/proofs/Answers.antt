@@ -35,7 +35,8 @@ pub taken-not : (low high : ℕ) (o : Option (List Form × ℕ)) → Listed.Not 
 taken-not low high none e = refl
 taken-not low high (some r) e = let z : _≡_ {A = ℕ} 0 1 = cc in absurd (omega arith)
 
-pub taken-is : (low high : ℕ) (o : Option (List Form × ℕ)) (marks : Marks) (c : Cursor) → Listed.Is marks c ≡ listedAs low high nothing o → Taken low high o marks c
+pub taken-is : (low high : ℕ) (o : Option (List Form × ℕ)) (marks : Marks) (c : Cursor) → Listed.Is marks c ≡ listedAs low high nothing o
+    → Taken low high o marks c
 taken-is low high none marks c e = let z : _≡_ {A = ℕ} 0 1 = cc in absurd (omega arith)
 taken-is low high (some r) marks c e = let k : c ≡ cursor (r .1) = cc in record { forms = r .0; read = rw k refl; marked = cc }
 
@@ -43,7 +44,8 @@ module _ (low high : ℕ) (s : List ℕ) (at : ℕ) where
   pub field-star : low ≤ high → getD s at 0 ≡ 42 → Field.Is (2 ^ (high + 1) - 2 ^ low) false (cursor (at + 1)) ≡ fieldAt low high s at
   unfolding fieldAt fieldAs fieldRead fieldInRange fieldHas
   field-star h e =
-      let m : 2 ^ (high + 1) - 2 ^ low ≡ maskFrom (fieldHas star) (high + 1 - low) low = span-mask low high (omega arith) ∙ mask-from-same (λ (n : ℕ). true) (fieldHas star) (high + 1 - low) low (λ i a b. refl) in
+      let m : 2 ^ (high + 1) - 2 ^ low ≡ maskFrom (fieldHas star) (high + 1 - low) low =
+      span-mask low high (omega arith) ∙ mask-from-same (λ (n : ℕ). true) (fieldHas star) (high + 1 - low) low (λ i a b. refl) in
       rw (e, m) refl
 
   module _ (other : eqb (getD s at 0) 42 ≡ false) where
@@ -63,5 +65,6 @@ module _ (low high : ℕ) (s : List ℕ) (at : ℕ) where
       unfolding fieldAt fieldAs fieldRead fieldInRange fieldHas
       field-is h g =
           let a : allOf (elementInRange low high) (t .forms) ≡ true = sym all-in ∙ g in
-          let m : marks .mask ≡ maskFrom (fieldHas (list (t .forms))) (high + 1 - low) low = ap (λ (m : Marks). m .mask) (t .marked) ∙ over-mask low high (t .forms) h a in
+          let m : marks .mask ≡ maskFrom (fieldHas (list (t .forms))) (high + 1 - low) low =
+          ap (λ (m : Marks). m .mask) (t .marked) ∙ over-mask low high (t .forms) h a in
           rw (other, t .read, a, m) refl

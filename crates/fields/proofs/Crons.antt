@@ -57,11 +57,14 @@ last-line a b c d (p ∷ []) = by-field (fieldOf p) refl
     by-field (some f) e = rw (each-cons fieldOf p [] (some f) (some []) e (each-none fieldOf), e) refl
 last-line a b c d (p ∷ q ∷ ps) = by-fields (fieldOf p) (fieldOf q) (eachOf fieldOf ps) refl refl refl
   where
-    by-fields : (o n : Option Field) (x : Option (List Field)) → fieldOf p ≡ o → fieldOf q ≡ n → eachOf fieldOf ps ≡ x → lineOf (a ∷ b ∷ c ∷ d ∷ []) (p ∷ q ∷ ps) ≡ none
+    by-fields : (o n : Option Field) (x : Option (List Field)) → fieldOf p ≡ o → fieldOf q ≡ n → eachOf fieldOf ps ≡ x
+        → lineOf (a ∷ b ∷ c ∷ d ∷ []) (p ∷ q ∷ ps) ≡ none
     by-fields none n x e f g = rw (each-cons fieldOf p (q ∷ ps) none _ e refl) refl
     by-fields (some v) none x e f g = rw (each-cons fieldOf p (q ∷ ps) (some v) none e (each-cons fieldOf q ps none x f g)) refl
-    by-fields (some v) (some w) none e f g = rw (each-cons fieldOf p (q ∷ ps) (some v) none e (each-cons fieldOf q ps (some w) none f g)) refl
-    by-fields (some v) (some w) (some gs) e f g = rw (each-cons fieldOf p (q ∷ ps) (some v) (some (w ∷ gs)) e (each-cons fieldOf q ps (some w) (some gs) f g)) refl
+    by-fields (some v) (some w) none e f g =
+        rw (each-cons fieldOf p (q ∷ ps) (some v) none e (each-cons fieldOf q ps (some w) none f g)) refl
+    by-fields (some v) (some w) (some gs) e f g =
+        rw (each-cons fieldOf p (q ∷ ps) (some v) (some (w ∷ gs)) e (each-cons fieldOf q ps (some w) (some gs) f g)) refl
 
 -- ---- the reader
 module _ (s : List ℕ) where
@@ -73,7 +76,9 @@ module _ (s : List ℕ) where
       → ((f : Field) (from : ℕ) (rest : List ℕ) → drop from s ≡ rest ++ [] → Tied (lineOf (fs ++ (f ∷ [])) (pieces 32 rest)) (more f from) from (from + length rest))
       → (at : ℕ) (p : List ℕ) → drop at s ≡ p ++ [] → Tied (lineOf fs (pieces 32 p)) (thenAt 32 s more (fieldRead s at)) at (at + length p)
   unfolding cronOf consOf
-  then-line fs more few again = then-tied 32 s fieldOf (fieldRead s) FieldStops space-stops tie [] stops-at-end (lineOf fs) (λ (f : Field). lineOf (fs ++ (f ∷ []))) more no-first first alone again refl
+  then-line fs more few again =
+      then-tied 32 s fieldOf (fieldRead s) FieldStops space-stops tie [] stops-at-end (lineOf fs) (λ (f : Field). lineOf (fs ++ (f ∷ [])))
+      more no-first first alone again refl
     where
       no-first : (q : List ℕ) (ps : List (List ℕ)) → fieldOf q ≡ none → lineOf fs (q ∷ ps) ≡ none
       no-first q ps e = rw (each-cons fieldOf q ps none _ e refl) refl
@@ -83,16 +88,23 @@ module _ (s : List ℕ) where
         where
           by-others : (o : Option (List Field)) → eachOf fieldOf ps ≡ o → lineOf fs (q ∷ ps) ≡ lineOf (fs ++ (f ∷ [])) ps
           by-others none g = rw (each-cons fieldOf q ps (some f) none e g, g) refl
-          by-others (some gs) g = rw (each-cons fieldOf q ps (some f) (some gs) e g, g) (ap (λ (l : List Field). cronOf (some l)) (sym (append-assoc fs (f ∷ []) gs)))
+          by-others (some gs) g =
+              rw (each-cons fieldOf q ps (some f) (some gs) e g, g)
+              (ap (λ (l : List Field). cronOf (some l)) (sym (append-assoc fs (f ∷ []) gs)))
 
       alone : (f : Field) → lineOf (fs ++ (f ∷ [])) [] ≡ none
-      alone f = rw (each-none fieldOf) (too-few (fs ++ (f ∷ []) ++ []) (omega (arith, length-append (fs ++ (f ∷ [])) [], length-append fs (f ∷ []))))
+      alone f =
+          rw (each-none fieldOf)
+          (too-few (fs ++ (f ∷ []) ++ []) (omega (arith, length-append (fs ++ (f ∷ [])) [], length-append fs (f ∷ []))))
 
-  last-tied : (a b c d : Field) (at : ℕ) (p : List ℕ) → drop at s ≡ p ++ [] → Tied (lineOf (a ∷ b ∷ c ∷ d ∷ []) (pieces 32 p)) (madeRead (cron a b c d) (fieldRead s at)) at (at + length p)
+  last-tied : (a b c d : Field) (at : ℕ) (p : List ℕ) → drop at s ≡ p ++ []
+      → Tied (lineOf (a ∷ b ∷ c ∷ d ∷ []) (pieces 32 p)) (madeRead (cron a b c d) (fieldRead s at)) at (at + length p)
   last-tied a b c d at p here =
-      rw (last-line a b c d (pieces 32 p)) (tied-made (cron a b c d) _ _ at at _ (omega arith) (only-tied 32 s fieldOf (fieldRead s) FieldStops space-stops tie [] stops-at-end at p here))
+      rw (last-line a b c d (pieces 32 p))
+      (tied-made (cron a b c d) _ _ at at _ (omega arith) (only-tied 32 s fieldOf (fieldRead s) FieldStops space-stops tie [] stops-at-end at p here))
 
-  pub cron-tied : (at : ℕ) (p : List ℕ) → drop at s ≡ p ++ [] → Tied (cronOf (eachOf fieldOf (pieces 32 p))) (cronRead s at) at (at + length p)
+  pub cron-tied : (at : ℕ) (p : List ℕ) → drop at s ≡ p ++ []
+      → Tied (cronOf (eachOf fieldOf (pieces 32 p))) (cronRead s at) at (at + length p)
   unfolding cronRead
   cron-tied at p here =
       rw (after-nothing (eachOf fieldOf (pieces 32 p))) at

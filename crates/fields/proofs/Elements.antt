@@ -49,7 +49,8 @@ module _ (p : List ℕ) where
   element-more a b c ds e = rw e refl
 
 -- after a number and a `-`: the rest is one number, or the piece is no element
-element-range : (p q rest : List ℕ) (a : ℕ) → pieces 45 p ≡ q ∷ pieces 45 rest → numberOf q ≡ some a → elementOf p ≡ made (range a) (numberOf rest)
+element-range : (p q rest : List ℕ) (a : ℕ) → pieces 45 p ≡ q ∷ pieces 45 rest → numberOf q ≡ some a
+    → elementOf p ≡ made (range a) (numberOf rest)
 unfolding consOf
 element-range p q rest a c e = by-cut (cut-of 45 rest)
   where
@@ -58,25 +59,33 @@ element-range p q rest a c e = by-cut (cut-of 45 rest)
 
     by-last : (q : List ℕ) (o : Option ℕ) → numberOf q ≡ o → pieces 45 rest ≡ q ∷ [] → elementOf p ≡ made (range a) o
     by-last q none f d = element-none p (numbers none (rw d (each-cons numberOf q [] none _ f refl)))
-    by-last q (some b) f d = element-two p a b (numbers (some (b ∷ [])) (rw d (each-cons numberOf q [] (some b) (some []) f (each-none numberOf))))
+    by-last q (some b) f d =
+        element-two p a b (numbers (some (b ∷ [])) (rw d (each-cons numberOf q [] (some b) (some []) f (each-none numberOf))))
 
-    by-more : (q r : List ℕ) (rs : List (List ℕ)) (o : Option ℕ) (x : Option (List ℕ)) → numberOf q ≡ o → eachOf numberOf (r ∷ rs) ≡ x → pieces 45 rest ≡ q ∷ r ∷ rs → elementOf p ≡ none
+    by-more : (q r : List ℕ) (rs : List (List ℕ)) (o : Option ℕ) (x : Option (List ℕ)) → numberOf q ≡ o → eachOf numberOf (r ∷ rs) ≡ x
+        → pieces 45 rest ≡ q ∷ r ∷ rs → elementOf p ≡ none
     by-more q r rs none x f g d = element-none p (numbers none (rw d (each-cons numberOf q (r ∷ rs) none x f g)))
     by-more q r rs (some b) none f g d = element-none p (numbers none (rw d (each-cons numberOf q (r ∷ rs) (some b) none f g)))
     by-more q r rs (some b) (some []) f g d = absurd (never (numberOf r) (eachOf numberOf rs) refl refl g)
       where
         never : (o : Option ℕ) (x : Option (List ℕ)) → numberOf r ≡ o → eachOf numberOf rs ≡ x → eachOf numberOf (r ∷ rs) ≡ some [] → ⊥
         never none x h k g = let w = sym (each-cons numberOf r rs none x h k) ∙ g in let z : _≡_ {A = ℕ} 0 1 = cc in omega arith
-        never (some v) none h k g = let w = sym (each-cons numberOf r rs (some v) none h k) ∙ g in let z : _≡_ {A = ℕ} 0 1 = cc in omega arith
-        never (some v) (some vs) h k g = let w = sym (each-cons numberOf r rs (some v) (some vs) h k) ∙ g in let z : _≡_ {A = ℕ} 0 1 = cc in omega arith
-    by-more q r rs (some b) (some (v ∷ vs)) f g d = element-more p a b v vs (numbers (some (b ∷ v ∷ vs)) (rw d (each-cons numberOf q (r ∷ rs) (some b) (some (v ∷ vs)) f g)))
+        never (some v) none h k g =
+            let w = sym (each-cons numberOf r rs (some v) none h k) ∙ g in let z : _≡_ {A = ℕ} 0 1 = cc in omega arith
+        never (some v) (some vs) h k g =
+            let w = sym (each-cons numberOf r rs (some v) (some vs) h k) ∙ g in let z : _≡_ {A = ℕ} 0 1 = cc in omega arith
+    by-more q r rs (some b) (some (v ∷ vs)) f g d =
+        element-more p a b v vs (numbers (some (b ∷ v ∷ vs)) (rw d (each-cons numberOf q (r ∷ rs) (some b) (some (v ∷ vs)) f g)))
 
-    by-after : (q t : List ℕ) (others : List (List ℕ)) → rest ≡ q ++ t → pieces 45 rest ≡ q ∷ others → After 45 t others → elementOf p ≡ made (range a) (numberOf rest)
-    by-after q t others f d ended = let g : numberOf q ≡ numberOf rest = ap numberOf (sym (f ∙ append-nil q)) in by-last q (numberOf rest) g d
+    by-after : (q t : List ℕ) (others : List (List ℕ)) → rest ≡ q ++ t → pieces 45 rest ≡ q ∷ others → After 45 t others
+        → elementOf p ≡ made (range a) (numberOf rest)
+    by-after q t others f d ended =
+        let g : numberOf q ≡ numberOf rest = ap numberOf (sym (f ∙ append-nil q)) in by-last q (numberOf rest) g d
     by-after q t others f d (more r) =
         let k = cut-of 45 r in
         let n : numberOf rest ≡ none = ap numberOf f ∙ dash-no-number q r in
-        rw n (by-more q (k .piece) (k .others) (numberOf q) (eachOf numberOf (k .piece ∷ k .others)) refl refl (d ∙ ap (λ (l : List (List ℕ)). q ∷ l) (k .cut)))
+        rw n
+        (by-more q (k .piece) (k .others) (numberOf q) (eachOf numberOf (k .piece ∷ k .others)) refl refl (d ∙ ap (λ (l : List (List ℕ)). q ∷ l) (k .cut)))
 
     by-cut : Cut 45 rest → elementOf p ≡ made (range a) (numberOf rest)
     by-cut k = by-after (k .piece) (k .tail) (k .others) (k .text) (k .cut) (k .after)
@@ -89,12 +98,16 @@ read-range n Number.Not = refl
 -- no digit and no `-` stands after the piece
 module _ (s : List ℕ) (at : ℕ) (p tail : List ℕ) (here : drop at s ≡ p ++ tail) (stops : digitsIn tail ≡ 0) (other : eqb (getD tail 0 0) 45 ≡ false) where
   -- a number that ends where its piece does: the element's end, or a `-` and a second number
-  by-after : (q t : List ℕ) (others : List (List ℕ)) (v e : ℕ) → After 45 t others → p ≡ q ++ t → pieces 45 p ≡ q ∷ others → drop at s ≡ q ++ (t ++ tail) → numberOf q ≡ some v → e ≡ at + length q
+  by-after : (q t : List ℕ) (others : List (List ℕ)) (v e : ℕ) → After 45 t others → p ≡ q ++ t → pieces 45 p ≡ q ∷ others
+      → drop at s ≡ q ++ (t ++ tail) → numberOf q ≡ some v → e ≡ at + length q
       → Tied (elementOf p) (elementRead (elementFrom s (Number.Is v (cursor e)))) at (at + length p)
   unfolding consOf
   by-after q t others v e ended l d f m g =
       let n : length p ≡ length q = omega (arith, ap length l, length-append q []) in
-      rw (ap (λ (x : ℕ). eqb x 45) (after-byte s at q tail e f g) ∙ other, element-one p v (rw d (each-cons numberOf q [] (some v) (some []) m (each-none numberOf))))
+      rw (
+        ap (λ (x : ℕ). eqb x 45) (after-byte s at q tail e f g) ∙ other,
+        element-one p v (rw d (each-cons numberOf q [] (some v) (some []) m (each-none numberOf))),
+      )
       (tied-by (some (one v)) (one v) e at (at + length p) (omega arith) true (λ h. omega arith) (λ h k. refl) (λ h k. absurd (k (omega arith))) (λ h. absurd (true≢false h)))
   by-after q t others v e (more r) l d f m g =
       let n : e + 1 + length r ≡ at + length p = omega (arith, ap length l, length-append q (45 ∷ r)) in
@@ -114,7 +127,10 @@ module _ (s : List ℕ) (at : ℕ) (p tail : List ℕ) (here : drop at s ≡ p +
       by-order (c .at) (at + length q)
       (λ b.
       let m : numberOf q ≡ none = n .whole ∙ whole-part (v, c .at) (at + length q) (λ (g : c .at ≡ at + length q). omega arith) in
-      rw (piece-byte s at q (t ++ tail) (c .at) f (i .0) b (λ (x : ℕ). eqb x 45 ≡ false) whole, element-none p (rw d (each-cons numberOf q others none _ m refl)))
+      rw (
+        piece-byte s at q (t ++ tail) (c .at) f (i .0) b (λ (x : ℕ). eqb x 45 ≡ false) whole,
+        element-none p (rw d (each-cons numberOf q others none _ m refl)),
+      )
       (tied-by none (one v) (c .at) at (at + length p) (i .0) true (λ g. omega arith) (λ g (h : c .at ≡ at + length p). absurd (omega arith)) (λ g h. refl) (λ g. refl)))
       (λ b. let g : c .at ≡ at + length q = omega (arith, i) in by-after q t others v (c .at) a e d f (n .whole ∙ whole-all (v, c .at) (at + length q) g) g)
 

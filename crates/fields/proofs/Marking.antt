@@ -45,7 +45,8 @@ module _ (low high : ℕ) (m : Marks) where
 abbrev marked : Marks → ℕ → Listed
 marked m e = Listed.Is m (cursor e)
 
-as-taken : (low high : ℕ) (m : Marks) (o : Option (List Form × ℕ)) → takenAs (marksOf low high) marked Listed.Not m o ≡ listedAs low high m o
+as-taken : (low high : ℕ) (m : Marks) (o : Option (List Form × ℕ))
+    → takenAs (marksOf low high) marked Listed.Not m o ≡ listedAs low high m o
 as-taken low high m none = refl
 as-taken low high m (some r) = refl
 
@@ -63,23 +64,29 @@ module _ (s : List ℕ) (low high : ℕ) (m : Marks) (at : ℕ) where
   list-not left e = taken-not (marksOf low high) marked Listed.Not read 44 s m at left e ∙ as-taken low high m (elementsAt s left at)
 
   module _ (marks : Marks) (c : Cursor) (r : Read low high m (elementAt s at) marks c) where
-    pub list-last : (left : ℕ) → 0 < left → eqb (getD s (c .at) 0) 44 ≡ false → Listed.Is marks c ≡ listedAs low high m (elementsAt s left at)
+    pub list-last : (left : ℕ) → 0 < left → eqb (getD s (c .at) 0) 44 ≡ false
+        → Listed.Is marks c ≡ listedAs low high m (elementsAt s left at)
     unfolding elementsAt
-    list-last left h f = rw (r .marked) (taken-last (marksOf low high) marked Listed.Not read 44 s m at left (r .form) (c .at) h (r .read) f ∙ as-taken low high m (elementsAt s left at))
+    list-last left h f =
+        rw (r .marked)
+        (taken-last (marksOf low high) marked Listed.Not read 44 s m at left (r .form) (c .at) h (r .read) f ∙ as-taken low high m (elementsAt s left at))
 
-    pub list-next : (left : ℕ) → 0 < left → getD s (c .at) 0 ≡ 44 → listedAs low high marks (elementsAt s (left - 1) (c .at + 1)) ≡ listedAs low high m (elementsAt s left at)
+    pub list-next : (left : ℕ) → 0 < left → getD s (c .at) 0 ≡ 44
+        → listedAs low high marks (elementsAt s (left - 1) (c .at + 1)) ≡ listedAs low high m (elementsAt s left at)
     unfolding elementsAt
     list-next left h f =
         let n : suc (left - 1) ≡ left = omega arith in
         let e = taken-next (marksOf low high) marked Listed.Not read 44 s m at (left - 1) (r .form) (c .at) (r .read) f in
-        rw (r .marked) (sym (as-taken low high (marksOf low high m (r .form)) (elementsAt s (left - 1) (c .at + 1))) ∙ rw n at e ∙ as-taken low high m (elementsAt s left at))
+        rw (r .marked)
+        (sym (as-taken low high (marksOf low high m (r .form)) (elementsAt s (left - 1) (c .at + 1))) ∙ rw n at e ∙ as-taken low high m (elementsAt s left at))
 
 -- ---- the place after an element
 placeIn : Option (Form × ℕ) → ℕ
 placeIn none = 0
 placeIn (some r) = r .1
 
-range-after : (s : List ℕ) (at n : ℕ) (x : Number) → numberAt s at ≡ x → (f : Form) (e : ℕ) → elementRead (rangeFrom n x) ≡ some (f, e) → at < e
+range-after : (s : List ℕ) (at n : ℕ) (x : Number) → numberAt s at ≡ x → (f : Form) (e : ℕ) → elementRead (rangeFrom n x) ≡ some (f, e)
+    → at < e
 unfolding placeIn
 range-after s at n (Number.Is v c) g f e q = omega (arith, number-after s at v (c .at) (ap numberRead g), ap placeIn q)
 range-after s at n Number.Not g f e q = let z : _≡_ {A = ℕ} 0 1 = cc in absurd (omega arith)
@@ -93,5 +100,6 @@ place-after s at f e q = by-number (numberAt s at) refl q
     by-number (Number.Is v c) g q = by-dash (eqb (getD s (c .at) 0) 45) q
       where
         by-dash : (b : Bool) → elementRead (cond b (rangeFrom v (numberAt s (c .at + 1))) (Element.One v c)) ≡ some (f, e) → at < e
-        by-dash true q = omega (arith, number-after s at v (c .at) (ap numberRead g), range-after s (c .at + 1) v (numberAt s (c .at + 1)) refl f e q)
+        by-dash true q =
+            omega (arith, number-after s at v (c .at) (ap numberRead g), range-after s (c .at + 1) v (numberAt s (c .at + 1)) refl f e q)
         by-dash false q = omega (arith, number-after s at v (c .at) (ap numberRead g), ap placeIn q)

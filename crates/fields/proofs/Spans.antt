@@ -38,10 +38,14 @@ span-mask a b h =
     omega (arith, f)
 
 pub span-bit : (a b n : ℕ) → a ≤ b → bit (2 ^ (b + 1) - 2 ^ a) n ≡ within a b n
-span-bit a b n h = rw (span-mask a b (omega arith)) (bit-mask-from (λ (n : ℕ). true) (b + 1 - a) a n ∙ by-order n a (λ l. simp (lt-leb a n l)) (λ l. rw (le-leb a n l) (upper l)))
+span-bit a b n h =
+    rw (span-mask a b (omega arith))
+    (bit-mask-from (λ (n : ℕ). true) (b + 1 - a) a n ∙ by-order n a (λ l. simp (lt-leb a n l)) (λ l. rw (le-leb a n l) (upper l)))
   where
     upper : a ≤ n → (ltb n (a + (b + 1 - a)) && true) ≡ leb n b
-    upper l = by-order b n (λ m. rw (le-ltb n (a + (b + 1 - a)) (omega arith), lt-leb n b m) refl) (λ m. rw (lt-ltb n (a + (b + 1 - a)) (omega arith), le-leb n b m) refl)
+    upper l =
+        by-order b n (λ m. rw (le-ltb n (a + (b + 1 - a)) (omega arith), lt-leb n b m) refl)
+        (λ m. rw (lt-ltb n (a + (b + 1 - a)) (omega arith), le-leb n b m) refl)
 
 -- ---- one element
 -- the ends of an element
@@ -86,7 +90,8 @@ module _ (low high : ℕ) (m : Marks) (x : Form) where
   unfolding marksWith
   one-good = rw (marks-ends low high m x, range-ends low high x) (by-order-test (inOrder low high (firstOf x) (lastOf x)))
     where
-      by-order-test : (b : Bool) → cond {A = Marks} b (record { mask = bitOr (m .mask) (2 ^ (lastOf x + 1) - 2 ^ firstOf x); good = m .good }) (record { mask = m .mask; good = false }) .good ≡ (m .good && b)
+      by-order-test : (b : Bool)
+          → cond {A = Marks} b (record { mask = bitOr (m .mask) (2 ^ (lastOf x + 1) - 2 ^ firstOf x); good = m .good }) (record { mask = m .mask; good = false }) .good ≡ (m .good && b)
       by-order-test true = sym (and-true (m .good))
       by-order-test false = sym (and-false (m .good))
 
@@ -108,11 +113,14 @@ module _ (low high : ℕ) (m : Marks) (x : Form) where
     rising = leb-true (firstOf x) (lastOf x) (both-true (leb (lastOf x) high) _ (both-true (leb low (firstOf x)) _ ordered .1) .1)
 
     one-bit : (n : ℕ) → bit (marksOf low high m x .mask) n ≡ (bit (m .mask) n || elementHas n x)
-    one-bit n = rw (one-mask) (bit-of-both (m .mask) _ n ∙ ap (λ (b : Bool). bit (m .mask) n || b) (span-bit (firstOf x) (lastOf x) n rising ∙ sym (has-ends n x)))
+    one-bit n =
+        rw (one-mask)
+        (bit-of-both (m .mask) _ n ∙ ap (λ (b : Bool). bit (m .mask) n || b) (span-bit (firstOf x) (lastOf x) n rising ∙ sym (has-ends n x)))
 
     one-below : m .mask < 2 ^ (high + 1) → marksOf low high m x .mask < 2 ^ (high + 1)
     one-below h =
-        let p : 2 ^ (lastOf x + 1) ≤ 2 ^ (high + 1) = pow-le-pow-right {n = 2} (omega arith) {i = lastOf x + 1} {j = high + 1} (omega (arith, to-high)) in
+        let p : 2 ^ (lastOf x + 1) ≤ 2 ^ (high + 1) =
+        pow-le-pow-right {n = 2} (omega arith) {i = lastOf x + 1} {j = high + 1} (omega (arith, to-high)) in
         rw one-mask (or-lt (high + 1) (m .mask) _ h (omega (arith, p, pow-pos (firstOf x))))
 
     -- no number below the lowest
@@ -128,22 +136,28 @@ module _ (low high : ℕ) where
       over-good (marksOf low high m x) xs ∙ ap (λ (b : Bool). b && allOf (elementInRange low high) xs) (one-good low high m x)
       ∙ and-assoc (m .good) (elementInRange low high x) (allOf (elementInRange low high) xs)
 
-  over-bit : (m : Marks) (xs : List Form) (n : ℕ) → allOf (elementInRange low high) xs ≡ true → bit (marksOver low high m xs .mask) n ≡ (bit (m .mask) n || anyOf (elementHas n) xs)
+  over-bit : (m : Marks) (xs : List Form) (n : ℕ) → allOf (elementInRange low high) xs ≡ true
+      → bit (marksOver low high m xs .mask) n ≡ (bit (m .mask) n || anyOf (elementHas n) xs)
   unfolding overAll
   over-bit m [] n a = sym (or-false (bit (m .mask) n))
   over-bit m (x ∷ xs) n a =
-      over-bit (marksOf low high m x) xs n (both-true (elementInRange low high x) _ a .1) ∙ ap (λ (b : Bool). b || anyOf (elementHas n) xs) (one-bit low high m x (both-true (elementInRange low high x) _ a .0) n)
+      over-bit (marksOf low high m x) xs n (both-true (elementInRange low high x) _ a .1)
+      ∙ ap (λ (b : Bool). b || anyOf (elementHas n) xs) (one-bit low high m x (both-true (elementInRange low high x) _ a .0) n)
       ∙ or-assoc (bit (m .mask) n) (elementHas n x) (anyOf (elementHas n) xs)
 
-  over-below : (m : Marks) (xs : List Form) → allOf (elementInRange low high) xs ≡ true → m .mask < 2 ^ (high + 1) → marksOver low high m xs .mask < 2 ^ (high + 1)
+  over-below : (m : Marks) (xs : List Form) → allOf (elementInRange low high) xs ≡ true → m .mask < 2 ^ (high + 1)
+      → marksOver low high m xs .mask < 2 ^ (high + 1)
   unfolding overAll
   over-below m [] a h = h
-  over-below m (x ∷ xs) a h = over-below (marksOf low high m x) xs (both-true (elementInRange low high x) _ a .1) (one-below low high m x (both-true (elementInRange low high x) _ a .0) h)
+  over-below m (x ∷ xs) a h =
+      over-below (marksOf low high m x) xs (both-true (elementInRange low high x) _ a .1)
+      (one-below low high m x (both-true (elementInRange low high x) _ a .0) h)
 
   none-low : (xs : List Form) (n : ℕ) → allOf (elementInRange low high) xs ≡ true → n < low → anyOf (elementHas n) xs ≡ false
   none-low [] n a h = refl
   none-low (x ∷ xs) n a h =
-      rw (not-low low high (record { mask = 0; good = true }) x (both-true (elementInRange low high x) _ a .0) n h) (none-low xs n (both-true (elementInRange low high x) _ a .1) h)
+      rw (not-low low high (record { mask = 0; good = true }) x (both-true (elementInRange low high x) _ a .0) n h)
+      (none-low xs n (both-true (elementInRange low high x) _ a .1) h)
 
   -- "The mask is .." the numbers that some element has
   pub over-mask : (xs : List Form) → low ≤ high → allOf (elementInRange low high) xs ≡ true
@@ -154,4 +168,6 @@ module _ (low high : ℕ) where
       (λ i l. over-bit (record { mask = 0; good = true }) xs i a ∙ ap (λ (b : Bool). b || anyOf (elementHas i) xs) (bit-of-zero i) ∙ sym (bit-mask-from (λ (n : ℕ). anyOf (elementHas n) xs) (high + 1 - low) low i ∙ same i l))
     where
       same : (i : ℕ) → i < high + 1 → (leb low i && ltb i (low + (high + 1 - low)) && anyOf (elementHas i) xs) ≡ anyOf (elementHas i) xs
-      same i l = by-order i low (λ k. rw (lt-leb low i k, none-low xs i a k) refl) (λ k. rw (le-leb low i k, lt-ltb i (low + (high + 1 - low)) (omega arith)) refl)
+      same i l =
+          by-order i low (λ k. rw (lt-leb low i k, none-low xs i a k) refl)
+          (λ k. rw (le-leb low i k, lt-ltb i (low + (high + 1 - low)) (omega arith)) refl)

@@ -47,7 +47,9 @@ NoneAt s at = (more : Form → ℕ → Option (Line × ℕ)) → thenAt 32 s mor
 module _ (s : List ℕ) (low high : ℕ) (before : Bool) (at : ℕ) where
   -- what a field that was read answers, its numbers in range or not
   abbrev answer : Bool → Form × ℕ → Field
-  answer b r = cond b (Field.Is (maskFrom (fieldHas (r .0)) (high + 1 - low) low) (restricted (r .0)) (cursor (r .1))) (Field.Outside (cursor (r .1)))
+  answer b r =
+      cond b (Field.Is (maskFrom (fieldHas (r .0)) (high + 1 - low) low) (restricted (r .0)) (cursor (r .1)))
+      (Field.Outside (cursor (r .1)))
 
   no-step : stepAs before (fieldAt low high s at) ≡ Step.Not → fieldRead s at ≡ none
   unfolding fieldAt fieldAs
@@ -61,11 +63,13 @@ module _ (s : List ℕ) (low high : ℕ) (before : Bool) (at : ℕ) where
       by-read none e = refl
       by-read (some r) e = by-range (fieldInRange low high (r .0)) r e
 
-  a-step : (mask : ℕ) (flag good : Bool) (next : Cursor) → stepAs before (fieldAt low high s at) ≡ Step.Is mask flag good next → Last s low high before at mask flag good next
+  a-step : (mask : ℕ) (flag good : Bool) (next : Cursor) → stepAs before (fieldAt low high s at) ≡ Step.Is mask flag good next
+      → Last s low high before at mask flag good next
   unfolding fieldAt fieldAs
   a-step mask flag good next e = by-read (fieldRead s at) refl e
     where
-      by-range : (b : Bool) (r : Form × ℕ) → fieldRead s at ≡ some r → fieldInRange low high (r .0) ≡ b → stepAs before (answer b r) ≡ Step.Is mask flag good next → Last s low high before at mask flag good next
+      by-range : (b : Bool) (r : Form × ℕ) → fieldRead s at ≡ some r → fieldInRange low high (r .0) ≡ b
+          → stepAs before (answer b r) ≡ Step.Is mask flag good next → Last s low high before at mask flag good next
       by-range true r g f e =
           let n : next ≡ cursor (r .1) = cc in
           let k : good ≡ before = cc in
@@ -75,7 +79,8 @@ module _ (s : List ℕ) (low high : ℕ) (before : Bool) (at : ℕ) where
           let k : good ≡ false = cc in
           record { form = r .0; holds = record { inside = rw (f, k) (sym (and-false before)); numbers = λ h. absurd (false≢true (sym k ∙ h)); flagged = λ h. absurd (false≢true (sym k ∙ h)) }; read = rw n g }
 
-      by-read : (o : Option (Form × ℕ)) → fieldRead s at ≡ o → stepAs before (fieldAs low high o) ≡ Step.Is mask flag good next → Last s low high before at mask flag good next
+      by-read : (o : Option (Form × ℕ)) → fieldRead s at ≡ o → stepAs before (fieldAs low high o) ≡ Step.Is mask flag good next
+          → Last s low high before at mask flag good next
       by-read none g e = let z : _≡_ {A = ℕ} 0 1 = cc in absurd (omega arith)
       by-read (some r) g e = by-range (fieldInRange low high (r .0)) r g refl e
 
@@ -84,21 +89,26 @@ module _ (s : List ℕ) (low high : ℕ) (before : Bool) (at : ℕ) where
     pub last-not : r ≡ stepAs before f → r ≡ Step.Not → fieldRead s at ≡ none
     last-not a n = no-step (rw q at (sym a ∙ n))
 
-    pub last-is : {mask : ℕ} {flag good : Bool} {next : Cursor} → r ≡ stepAs before f → r ≡ Step.Is mask flag good next → Last s low high before at mask flag good next
+    pub last-is : {mask : ℕ} {flag good : Bool} {next : Cursor} → r ≡ stepAs before f → r ≡ Step.Is mask flag good next
+        → Last s low high before at mask flag good next
     last-is a n = a-step _ _ _ _ (rw q at (sym a ∙ n))
 
     pub spaced-not : r ≡ spaceAfter s (stepAs before f) → r ≡ Step.Not → NoneAt s at
     spaced-not a n more = by-step (stepAs before (fieldAt low high s at)) refl (rw q at (sym a ∙ n))
       where
-        by-space : (b : Bool) (mask : ℕ) (flag good : Bool) (e : ℕ) (form : Form) → cond b (Step.Is mask flag good (cursor (e + 1))) Step.Not ≡ Step.Not → cond b (more form (e + 1)) none ≡ none
+        by-space : (b : Bool) (mask : ℕ) (flag good : Bool) (e : ℕ) (form : Form)
+            → cond b (Step.Is mask flag good (cursor (e + 1))) Step.Not ≡ Step.Not → cond b (more form (e + 1)) none ≡ none
         by-space true mask flag good e form z = let y : _≡_ {A = ℕ} 0 1 = cc in absurd (omega arith)
         by-space false mask flag good e form z = refl
 
-        by-step : (x : Step) → stepAs before (fieldAt low high s at) ≡ x → spaceAfter s x ≡ Step.Not → thenAt 32 s more (fieldRead s at) ≡ none
+        by-step : (x : Step) → stepAs before (fieldAt low high s at) ≡ x → spaceAfter s x ≡ Step.Not
+            → thenAt 32 s more (fieldRead s at) ≡ none
         by-step Step.Not g e = rw (no-step g) refl
-        by-step (Step.Is mask flag good next) g e = rw (a-step mask flag good next g .read) (by-space (eqb (getD s (next .at) 0) 32) mask flag good (next .at) _ e)
+        by-step (Step.Is mask flag good next) g e =
+            rw (a-step mask flag good next g .read) (by-space (eqb (getD s (next .at) 0) 32) mask flag good (next .at) _ e)
 
-    pub spaced-is : {mask : ℕ} {flag good : Bool} {next : Cursor} → r ≡ spaceAfter s (stepAs before f) → r ≡ Step.Is mask flag good next → Spaced s low high before at mask flag good next
+    pub spaced-is : {mask : ℕ} {flag good : Bool} {next : Cursor} → r ≡ spaceAfter s (stepAs before f) → r ≡ Step.Is mask flag good next
+        → Spaced s low high before at mask flag good next
     spaced-is {mask} {flag} {good} {next} a n = by-step (stepAs before (fieldAt low high s at)) refl (rw q at (sym a ∙ n))
       where
         by-space : (b : Bool) (m : ℕ) (f g : Bool) (c : Cursor) → Last s low high before at m f g c → eqb (getD s (c .at) 0) 32 ≡ b
@@ -111,7 +121,8 @@ module _ (s : List ℕ) (low high : ℕ) (before : Bool) (at : ℕ) where
             rw (i, j, h, y) (record { form = l .form; holds = l .holds; read = λ more. rw (l .read, k) refl })
         by-space false m f g c l k e = let z : _≡_ {A = ℕ} 0 1 = cc in absurd (omega arith)
 
-        by-step : (x : Step) → stepAs before (fieldAt low high s at) ≡ x → spaceAfter s x ≡ Step.Is mask flag good next → Spaced s low high before at mask flag good next
+        by-step : (x : Step) → stepAs before (fieldAt low high s at) ≡ x → spaceAfter s x ≡ Step.Is mask flag good next
+            → Spaced s low high before at mask flag good next
         by-step Step.Not g e = let z : _≡_ {A = ℕ} 0 1 = cc in absurd (omega arith)
         by-step (Step.Is m f b c) g e = by-space (eqb (getD s (c .at) 0) 32) m f b c (a-step m f b c g) refl e
 
@@ -139,7 +150,9 @@ module _ (s : List ℕ) (at : ℕ) where
         module _ {months : ℕ} {f₄ g₄ : Bool} {c₄ : Cursor} (mo : Spaced s 1 12 g₃ (c₃ .at) months f₄ g₄ c₄) where
           pub no-weekday : fieldRead s (c₄ .at) ≡ none → Five.Not ≡ fiveAs (cronRead s at)
           unfolding cronRead fiveAs
-          no-weekday n = sym (ap fiveAs (m .read _ ∙ h .read _ ∙ d .read _ ∙ mo .read _ ∙ ap (madeRead (cron (m .form) (h .form) (d .form) (mo .form))) n))
+          no-weekday n =
+              sym
+              (ap fiveAs (m .read _ ∙ h .read _ ∙ d .read _ ∙ mo .read _ ∙ ap (madeRead (cron (m .form) (h .form) (d .form) (mo .form))) n))
 
           module _ {weekdays : ℕ} {f₅ g₅ : Bool} {c₅ : Cursor} (w : Last s 0 6 g₄ (c₄ .at) weekdays f₅ g₅ c₅) where
             abbrev line : Line
@@ -147,7 +160,8 @@ module _ (s : List ℕ) (at : ℕ) where
 
             all-read : cronRead s at ≡ some (line, c₅ .at)
             unfolding cronRead
-            all-read = m .read _ ∙ h .read _ ∙ d .read _ ∙ mo .read _ ∙ ap (madeRead (cron (m .form) (h .form) (d .form) (mo .form))) (w .read)
+            all-read =
+                m .read _ ∙ h .read _ ∙ d .read _ ∙ mo .read _ ∙ ap (madeRead (cron (m .form) (h .form) (d .form) (mo .form))) (w .read)
 
             all-inside : g₅ ≡ inRange line
             unfolding inRange
@@ -165,4 +179,14 @@ module _ (s : List ℕ) (at : ℕ) where
                 let x₃ : g₃ ≡ true = both-true _ _ (sym (mo .holds .inside) ∙ x₄) .0 in
                 let x₂ : g₂ ≡ true = both-true _ _ (sym (d .holds .inside) ∙ x₃) .0 in
                 let x₁ : g₁ ≡ true = both-true _ _ (sym (h .holds .inside) ∙ x₂) .0 in
-                rw (all-read, sym all-inside ∙ g, m .holds .numbers x₁, h .holds .numbers x₂, d .holds .numbers x₃, mo .holds .numbers x₄, w .holds .numbers g, d .holds .flagged x₃, w .holds .flagged g) refl
+                rw (
+                  all-read,
+                  sym all-inside ∙ g,
+                  m .holds .numbers x₁,
+                  h .holds .numbers x₂,
+                  d .holds .numbers x₃,
+                  mo .holds .numbers x₄,
+                  w .holds .numbers g,
+                  d .holds .flagged x₃,
+                  w .holds .flagged g,
+                ) refl

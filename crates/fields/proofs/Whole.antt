@@ -35,7 +35,8 @@ unfolding digitsIn
 after-comma rest = (refl, refl)
 
 -- ---- the form of a field that is not `*`
-list-form : (p : List ℕ) (o : Option (List Element)) → eachOf elementOf (pieces 44 p) ≡ o → sameBytes p (42 ∷ []) ≡ false → fieldOf p ≡ made list o
+list-form : (p : List ℕ) (o : Option (List Element)) → eachOf elementOf (pieces 44 p) ≡ o → sameBytes p (42 ∷ []) ≡ false
+    → fieldOf p ≡ made list o
 unfolding fieldOf
 list-form p none e f = rw (f, e) refl
 list-form p (some es) e f = rw (f, e) refl
@@ -45,7 +46,8 @@ star-number : (q : List ℕ) → numberOf (42 ∷ q) ≡ none
 unfolding numberOf
 star-number q = rw and-false refl
 
-first-piece : (separator : ℕ) (q : List ℕ) → eqb 42 separator ≡ false → (A : Type 0) (form : List ℕ → Option A) → ((r : List ℕ) → form (42 ∷ r) ≡ none) → eachOf form (pieces separator (42 ∷ q)) ≡ none
+first-piece : (separator : ℕ) (q : List ℕ) → eqb 42 separator ≡ false → (A : Type 0) (form : List ℕ → Option A)
+    → ((r : List ℕ) → form (42 ∷ r) ≡ none) → eachOf form (pieces separator (42 ∷ q)) ≡ none
 unfolding pieces consOf
 first-piece separator q e A form f = by-cut (cut-of separator q)
   where
@@ -78,13 +80,17 @@ list-read none = refl
 list-read (some r) = refl
 
 module _ (s : List ℕ) (at : ℕ) (tail : List ℕ) (stops : FieldStops tail) where
-  list-case : (p : List ℕ) → drop at s ≡ p ++ tail → eqb (getD s at 0) 42 ≡ false → sameBytes p (42 ∷ []) ≡ false → Tied (fieldOf p) (fieldRead s at) at (at + length p)
+  list-case : (p : List ℕ) → drop at s ≡ p ++ tail → eqb (getD s at 0) 42 ≡ false → sameBytes p (42 ∷ []) ≡ false
+      → Tied (fieldOf p) (fieldRead s at) at (at + length p)
   unfolding fieldRead elementsAt
   list-case p here e f =
-      let t = all-tied s (λ (e : ℕ). elementRead (elementAt s e)) 44 elementOf Stop after-comma (λ at p tail here stop. element-tied s at p tail here (stop .0) (stop .1)) at p tail here (stops .digits, stops .dash) (stops .comma) in
-      rw (e, list-read (elementsAt s (length s + 1) at), list-form p (eachOf elementOf (pieces 44 p)) refl f) (tied-made list _ _ at at _ (omega arith) t)
+      let t =
+      all-tied s (λ (e : ℕ). elementRead (elementAt s e)) 44 elementOf Stop after-comma (λ at p tail here stop. element-tied s at p tail here (stop .0) (stop .1)) at p tail here (stops .digits, stops .dash) (stops .comma) in
+      rw (e, list-read (elementsAt s (length s + 1) at), list-form p (eachOf elementOf (pieces 44 p)) refl f)
+      (tied-made list _ _ at at _ (omega arith) t)
 
-  star-case : (p : List ℕ) (form : Option Field) → fieldOf p ≡ form → eqb (getD s at 0) 42 ≡ true → 1 ≤ length p → (length p ≡ 1 → form ≡ some star) → ((length p ≡ 1 → ⊥) → form ≡ none) → Tied (fieldOf p) (fieldRead s at) at (at + length p)
+  star-case : (p : List ℕ) (form : Option Field) → fieldOf p ≡ form → eqb (getD s at 0) 42 ≡ true → 1 ≤ length p
+      → (length p ≡ 1 → form ≡ some star) → ((length p ≡ 1 → ⊥) → form ≡ none) → Tied (fieldOf p) (fieldRead s at) at (at + length p)
   unfolding fieldRead
   star-case p form e b h all part =
       rw (e, b)

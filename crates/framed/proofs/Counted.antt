@@ -60,7 +60,8 @@ place-high false d h = let a = local-date-holds d h in omega (arith, a .high, mo
 abbrev pub counted : Bool → (ℕ → Bool) → ℕ → ℕ
 counted minus test d = cond minus (fromOn test d) (upTo test d)
 
-pub ordinal-counted : (minus : Bool) (d w : ℕ) → d < windowDays → localWeekday d ≡ w → counted minus (isWeekday w) d ≡ ordinalOf (placeOf minus d)
+pub ordinal-counted : (minus : Bool) (d w : ℕ) → d < windowDays → localWeekday d ≡ w
+    → counted minus (isWeekday w) d ≡ ordinalOf (placeOf minus d)
 ordinal-counted true d w h e = starting w (fromEnd d) d (place-low true d h) e
 ordinal-counted false d w h e =
     let a = local-date-holds d h in
@@ -84,7 +85,8 @@ counted-high true test d h = omega (arith, count-at-most test (fromEnd d) d, pla
 counted-high false test d h = omega (arith, count-at-most test (localDate d .day) (monthFirst (localDate d .month)), place-high false d h)
 
 -- tests that agree on the window's days
-pub counted-same : (minus : Bool) (test other : ℕ → Bool) (d : ℕ) → d < windowDays → ((j : ℕ) → j < windowDays → test j ≡ other j) → counted minus test d ≡ counted minus other d
+pub counted-same : (minus : Bool) (test other : ℕ → Bool) (d : ℕ) → d < windowDays → ((j : ℕ) → j < windowDays → test j ≡ other j)
+    → counted minus test d ≡ counted minus other d
 unfolding fromEnd
 counted-same true test other d h e =
     let a = local-date-holds d h in

@@ -24,7 +24,8 @@ reordered : (day hour minute : Bool) → (day && (hour && minute)) ≡ (minute &
 reordered day hour minute = and-comm day (hour && minute) ∙ ap (λ (b : Bool). b && day) (and-comm hour minute) ∙ and-assoc minute hour day
 
 -- bit n of a field's mask is whether the field has n
-pub field-bit : (f : Field) (lowest highest n : ℕ) → lowest ≤ n → n ≤ highest → bit (maskFrom (fieldHas f) (highest + 1 - lowest) lowest) n ≡ fieldHas f n
+pub field-bit : (f : Field) (lowest highest n : ℕ) → lowest ≤ n → n ≤ highest
+    → bit (maskFrom (fieldHas f) (highest + 1 - lowest) lowest) n ≡ fieldHas f n
 field-bit f lowest highest n l h = bit-in-mask (fieldHas f) (highest + 1 - lowest) lowest n l (omega arith)
 
 pub cron-held : (mi h d mo w : Field) (m : ℕ) → m < windowMinutes → cronHeld (cronFrame mi h d mo w) m ≡ cronHolds mi h d mo w m

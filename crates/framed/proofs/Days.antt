@@ -29,7 +29,8 @@ module _ (r : Rule) (d : ℕ) where
   unfolding placed
   any-place n = rw (n, placed) refl
 
-  given-place : noLimit (r .positions) ≡ false → placed r d ≡ (bit (r .positions .front) (counted false (inSet r) d) || bit (r .positions .back) (counted true (inSet r) d))
+  given-place : noLimit (r .positions) ≡ false
+      → placed r d ≡ (bit (r .positions .front) (counted false (inSet r) d) || bit (r .positions .back) (counted true (inSet r) d))
   unfolding placed
   given-place n = rw (n, placed) refl
 
@@ -48,7 +49,8 @@ module _ (f : Frequency) (g : Given) (first : ℕ) (r : Rule) (a : Framed f g fi
     place-is : (minus : Bool) → counted minus (inSet r) d ≡ counted minus (daySet f g first) d
     place-is minus = counted-same minus (inSet r) (daySet f g first) d h (λ j l. in-set-is f g first r a good j l)
 
-    placed-is : (ns : Option (List Signed)) → r .positions ≡ positionsFor ns → givenPasses (listed dayNumberInRange) ns ≡ true → daySet f g first d ≡ true
+    placed-is : (ns : Option (List Signed)) → r .positions ≡ positionsFor ns → givenPasses (listed dayNumberInRange) ns ≡ true
+        → daySet f g first d ≡ true
         → placed r d ≡ allows (positionHas f g first d) ns
     unfolding positionHas
     placed-is none e l t = any-place r d (ap noLimit e)
@@ -57,7 +59,8 @@ module _ (f : Frequency) (g : Given) (first : ℕ) (r : Rule) (a : Framed f g fi
         given-place r d (ap noLimit e ∙ ends-limit ns l)
         ∙ ap (λ (p : Ends). bit (p .front) (counted false (inSet r) d) || bit (p .back) (counted true (inSet r) d)) e
         ∙ ap₂ (λ (x y : ℕ). bit (endsOf ns .front) x || bit (endsOf ns .back) y) (place-is false) (place-is true)
-        ∙ ends-hold (counted false set d) (counted true set d) ns (counted-low false set d h t) (counted-high false set d h) (counted-low true set d h t) (counted-high true set d h)
+        ∙ ends-hold (counted false set d) (counted true set d) ns (counted-low false set d h t) (counted-high false set d h)
+        (counted-low true set d h t) (counted-high true set d h)
 
     set-placed : (inSet r d && placed r d) ≡ (daySet f g first d && allows (positionHas f g first d) (g .positions))
     set-placed =
@@ -81,7 +84,8 @@ module _ (t : Time) (ps : List Part) (inside : inRange (rule t ps) ≡ true) (w 
       → ruleDay (ruleFrame (givenOf ps) (minuteOf t)) d ≡ occursOn (Option·getD (givenOf ps .frequency) daily) (givenOf ps) (minuteOf t / dayMinutes) d
   rule-day d h =
       let g : Given = givenOf ps in
-      day-is (Option·getD (g .frequency) daily) g (minuteOf t / dayMinutes) (ruleFrame g (minuteOf t)) (frame-framed g (minuteOf t)) (rule-good t ps w inside) d h
+      day-is (Option·getD (g .frequency) daily) g (minuteOf t / dayMinutes) (ruleFrame g (minuteOf t)) (frame-framed g (minuteOf t))
+      (rule-good t ps w inside) d h
 
   pub rule-occurs : (m : ℕ) → m < windowMinutes → ruleOccurs (ruleFrame (givenOf ps) (minuteOf t)) m ≡ occursAt (givenOf ps) (minuteOf t) m
   unfolding ruleOccurs occursAt ruleFrame

@@ -53,7 +53,8 @@ module _ (n k : ℕ) where
   abbrev pub isPlace : Signed → Bool
   isPlace s = eqb (s .number) (cond (s .minus) k n)
 
-  pub ends-hold : (ns : List Signed) → 1 ≤ n → n ≤ 31 → 1 ≤ k → k ≤ 31 → (bit (endsOf ns .front) n || bit (endsOf ns .back) k) ≡ anyOf isPlace ns
+  pub ends-hold : (ns : List Signed) → 1 ≤ n → n ≤ 31 → 1 ≤ k → k ≤ 31
+      → (bit (endsOf ns .front) n || bit (endsOf ns .back) k) ≡ anyOf isPlace ns
   ends-hold ns a b c d =
       ap₂ _||_ (end-bit false ns n a b) (end-bit true ns k c d)
       ∙ any-either (signedAs false n) (signedAs true k) isPlace (λ s. either-sign (λ m. cond m k n) (s .minus) (s .number)) ns

@@ -31,13 +31,15 @@ entry-written s =
     (λ (f : ltb w 7 ≡ false). rw f refl)
 
 -- ---- parts
-part-written : {A : Type 0} (test : A → Bool) (part : A → Part) (o : Option A) → ((a : A) → test a ≡ true → partWritten (part a) ≡ true) → givenPasses test o ≡ true
+part-written : {A : Type 0} (test : A → Bool) (part : A → Part) (o : Option A) → ((a : A) → test a ≡ true → partWritten (part a) ≡ true)
+    → givenPasses test o ≡ true
     → givenPasses partWritten (partBy part o) ≡ true
 unfolding partBy
 part-written test part none w e = refl
 part-written test part (some a) w e = w a e
 
-simple-written : {A : Type 0} (part : A → Part) (o : Option A) → ((a : A) → partWritten (part a) ≡ true) → givenPasses partWritten (partBy part o) ≡ true
+simple-written : {A : Type 0} (part : A → Part) (o : Option A) → ((a : A) → partWritten (part a) ≡ true)
+    → givenPasses partWritten (partBy part o) ≡ true
 simple-written part o w = part-written anything part o (λ a e. w a) (anything-passes o)
 
 frequency-written : (k : ℕ) → givenPasses partWritten (frequencyAt k) ≡ true
@@ -45,7 +47,8 @@ unfolding frequencyAt
 frequency-written k =
     cond-passes partWritten (eqb k 0) _ _ refl (cond-passes partWritten (eqb k 1) _ _ refl (cond-passes partWritten (eqb k 2) _ _ refl refl))
 
-list-written : {A : Type 0} (test : A → Bool) (form : List ℕ → Option A) (part : List A → Part) (v : List ℕ) → ((s : List ℕ) → givenPasses test (form s) ≡ true)
+list-written : {A : Type 0} (test : A → Bool) (form : List ℕ → Option A) (part : List A → Part) (v : List ℕ)
+    → ((s : List ℕ) → givenPasses test (form s) ≡ true)
     → ((xs : List A) → listed test xs ≡ true → partWritten (part xs) ≡ true) → givenPasses partWritten (partBy part (eachOf form (pieces (byte ",") v))) ≡ true
 list-written test form part v each w =
     part-written (listed test) part (eachOf form (pieces (byte ",") v)) w (pieces-pass test form each (byte ",") v)
@@ -89,7 +92,8 @@ field-written s =
     (elements-written es (pieces-pass anything elementOf (λ e. anything-passes (elementOf e)) (byte ",") s))
 
 -- ---- lines
-plain-written : {A : Type 0} (form : A → Form) (o : Option A) → ((a : A) → written (form a) ≡ true) → givenPasses written (formBy form o) ≡ true
+plain-written : {A : Type 0} (form : A → Form) (o : Option A) → ((a : A) → written (form a) ≡ true)
+    → givenPasses written (formBy form o) ≡ true
 unfolding formBy
 plain-written form none w = refl
 plain-written form (some a) w = w a
@@ -118,7 +122,8 @@ cron-written (some (a ∷ b ∷ c ∷ d ∷ [])) w = refl
 cron-written (some (a ∷ b ∷ c ∷ d ∷ e ∷ [])) w = w
 cron-written (some (a ∷ b ∷ c ∷ d ∷ e ∷ f ∷ more)) w = refl
 
-rule-by-written : (t : Option Time) (ps : Option (List Part)) → givenPasses (allOf partWritten) ps ≡ true → givenPasses written (ruleBy t ps) ≡ true
+rule-by-written : (t : Option Time) (ps : Option (List Part)) → givenPasses (allOf partWritten) ps ≡ true
+    → givenPasses written (ruleBy t ps) ≡ true
 unfolding ruleBy
 rule-by-written none ps e = refl
 rule-by-written (some t) none e = refl
@@ -128,7 +133,8 @@ rule-written : (ps : List (List ℕ)) → givenPasses written (ruleOf ps) ≡ tr
 unfolding ruleOf
 rule-written [] = refl
 rule-written (t ∷ []) = refl
-rule-written (t ∷ ps ∷ []) = rule-by-written (timeOf t) (eachOf partOf (pieces (byte ";") ps)) (all-pass partWritten partOf part-of-written (pieces (byte ";") ps))
+rule-written (t ∷ ps ∷ []) =
+    rule-by-written (timeOf t) (eachOf partOf (pieces (byte ";") ps)) (all-pass partWritten partOf part-of-written (pieces (byte ";") ps))
 rule-written (t ∷ ps ∷ other ∷ more) = refl
 
 tagged-written : (tag : ℕ) (s : List ℕ) → givenPasses written (tagged tag s) ≡ true

@@ -60,13 +60,25 @@ entries-good es = listed-by weekdayWritten entryInRange entryGood (λ e w r. bot
 
 with-part : (p : Part) (ps : List Part) → partWritten p ≡ true → partInRange p ≡ true → Good (givenOf ps) → Good (givenOf (p ∷ ps))
 unfolding givenOf partInRange
-with-part (freq f) ps w r g = record { interval = g .interval; count = g .count; until = g .until; days = g .days; monthDays = g .monthDays; positions = g .positions }
-with-part (interval n) ps w r g = record { interval = r; count = g .count; until = g .until; days = g .days; monthDays = g .monthDays; positions = g .positions }
-with-part (count n) ps w r g = record { interval = g .interval; count = both-true (leb 1 n) (leb n 9999) r .0; until = g .until; days = g .days; monthDays = g .monthDays; positions = g .positions }
-with-part (until t) ps w r g = record { interval = g .interval; count = g .count; until = r; days = g .days; monthDays = g .monthDays; positions = g .positions }
-with-part (byDay es) ps w r g = record { interval = g .interval; count = g .count; until = g .until; days = entries-good es w r; monthDays = g .monthDays; positions = g .positions }
-with-part (byMonthDay ns) ps w r g = record { interval = g .interval; count = g .count; until = g .until; days = g .days; monthDays = numbers-good ns w r; positions = g .positions }
-with-part (bySetPos ns) ps w r g = record { interval = g .interval; count = g .count; until = g .until; days = g .days; monthDays = g .monthDays; positions = numbers-good ns w r }
+with-part (freq f) ps w r g =
+    record
+    { interval = g .interval; count = g .count; until = g .until; days = g .days; monthDays = g .monthDays; positions = g .positions }
+with-part (interval n) ps w r g =
+    record { interval = r; count = g .count; until = g .until; days = g .days; monthDays = g .monthDays; positions = g .positions }
+with-part (count n) ps w r g =
+    record
+    { interval = g .interval; count = both-true (leb 1 n) (leb n 9999) r .0; until = g .until; days = g .days; monthDays = g .monthDays; positions = g .positions }
+with-part (until t) ps w r g =
+    record { interval = g .interval; count = g .count; until = r; days = g .days; monthDays = g .monthDays; positions = g .positions }
+with-part (byDay es) ps w r g =
+    record
+    { interval = g .interval; count = g .count; until = g .until; days = entries-good es w r; monthDays = g .monthDays; positions = g .positions }
+with-part (byMonthDay ns) ps w r g =
+    record
+    { interval = g .interval; count = g .count; until = g .until; days = g .days; monthDays = numbers-good ns w r; positions = g .positions }
+with-part (bySetPos ns) ps w r g =
+    record
+    { interval = g .interval; count = g .count; until = g .until; days = g .days; monthDays = g .monthDays; positions = numbers-good ns w r }
 
 given-good : (ps : List Part) → allOf partWritten ps ≡ true → allOf partInRange ps ≡ true → Good (givenOf ps)
 unfolding givenOf

@@ -89,6 +89,7 @@ module _ (t : Time) (ps : List Part) (inside : inRange (rule t ps) ≡ true) (go
       (λ (o : occursAt g start m ≡ true).
       let a = occurs g start m o in
       ap (λ (b : Bool). b && leb m (ruleFrame g start .last)) (e ∙ o)
-      ∙ last-keeps (occursOn (frequencyIn g) g (start / dayMinutes)) start m h (a .from) (a .time) (a .day) (g .until) (g .count) (parts-together ps go .ends) (rule-good t ps w inside .count)
+      ∙ last-keeps (occursOn (frequencyIn g) g (start / dayMinutes)) start m h (a .from) (a .time) (a .day) (g .until) (g .count)
+      (parts-together ps go .ends) (rule-good t ps w inside .count)
       ∙ sym (holds-where g start m o))
       (λ (n : occursAt g start m ≡ false). ap (λ (b : Bool). b && leb m (ruleFrame g start .last)) (e ∙ n) ∙ sym (holds-not g start m n))

@@ -44,14 +44,18 @@ taken c f e =
 pub record Means (f : Form) (frame : Frame) : Type 0 where
   pub holds : (m : ℕ) → m < windowMinutes → frameHolds m frame ≡ lineHolds m f
   pub excepts : (m : ℕ) → frameExcepts m frame ≡ lineExcepts m f
-  pub offset : (frames : List Frame) (fs : List Form) → offsetOf frames ≡ offsetOfLines fs → offsetOf (frame ∷ frames) ≡ offsetOfLines (f ∷ fs)
-  pub changes : (frames : List Frame) (fs : List Form) → changesOf frames ≡ changesOfLines fs → changesOf (frame ∷ frames) ≡ changesOfLines (f ∷ fs)
+  pub offset : (frames : List Frame) (fs : List Form) → offsetOf frames ≡ offsetOfLines fs
+      → offsetOf (frame ∷ frames) ≡ offsetOfLines (f ∷ fs)
+  pub changes : (frames : List Frame) (fs : List Form) → changesOf frames ≡ changesOfLines fs
+      → changesOf (frame ∷ frames) ≡ changesOfLines (f ∷ fs)
 
 pub line-means : (line : List ℕ) (f : Form) → formOf line ≡ some f → (c : Context) → formRefusal c f ≡ 0 → Means f (frameOf f)
 unfolding frameHolds frameExcepts offsetOf changesOf lineHolds lineExcepts offsetOfLines changesOfLines frameOf
 line-means line (zone s) e c z = record { holds = λ m h. refl; excepts = λ m. refl; offset = λ fr fs o. refl; changes = λ fr fs o. o }
-line-means line (change t s) e c z = record { holds = λ m h. refl; excepts = λ m. refl; offset = λ fr fs o. o; changes = λ fr fs o. rw o refl }
-line-means line (cron mi hr d mo wd) e c z = record { holds = cron-held mi hr d mo wd; excepts = λ m. refl; offset = λ fr fs o. o; changes = λ fr fs o. o }
+line-means line (change t s) e c z =
+    record { holds = λ m h. refl; excepts = λ m. refl; offset = λ fr fs o. o; changes = λ fr fs o. rw o refl }
+line-means line (cron mi hr d mo wd) e c z =
+    record { holds = cron-held mi hr d mo wd; excepts = λ m. refl; offset = λ fr fs o. o; changes = λ fr fs o. o }
 line-means line (rule t ps) e c z =
     let a = taken c (rule t ps) z in
     record { holds = rule-held t ps (a .range) (a .parts) (form-written line (rule t ps) e); excepts = λ m. refl; offset = λ fr fs o. o; changes = λ fr fs o. o }

@@ -29,7 +29,8 @@ abbrev pub ordinalEnds : List Entry → Ends
 ordinalEnds es = record { front = ordinalsOf false es; back = ordinalsOf true es }
 
 -- five masks in one group
-five : (a b c d e : ℕ) → a < 128 → b < 128 → c < 128 → d < 128 → e < 128 → let g = 256 ^ 4 * a + (256 ^ 3 * b + (256 ^ 2 * c + (256 * d + e))) in
+five : (a b c d e : ℕ) → a < 128 → b < 128 → c < 128 → d < 128 → e < 128
+    → let g = 256 ^ 4 * a + (256 ^ 3 * b + (256 ^ 2 * c + (256 * d + e))) in
     (ordinalMask g 1 ≡ a) × (ordinalMask g 2 ≡ b) × (ordinalMask g 3 ≡ c) × (ordinalMask g 4 ≡ d) × (ordinalMask g 5 ≡ e)
 five a b c d e p q r s t = (omega arith, omega arith, omega arith, omega arith, omega arith)
 
@@ -45,7 +46,8 @@ module _ (minus : Bool) (es : List Entry) where
 
   pub ordinal-mask : (k : ℕ) → 1 ≤ k → k ≤ 5 → ordinalMask (ordinalsOf minus es) k ≡ maskFrom (λ w. anyOf (isOrdinal minus k w) es) 7 0
   unfolding ordinalsOf
-  ordinal-mask k l h = by-ordinal k l h (five (maskOf 1) (maskOf 2) (maskOf 3) (maskOf 4) (maskOf 5) (small 1) (small 2) (small 3) (small 4) (small 5))
+  ordinal-mask k l h =
+      by-ordinal k l h (five (maskOf 1) (maskOf 2) (maskOf 3) (maskOf 4) (maskOf 5) (small 1) (small 2) (small 3) (small 4) (small 5))
     where
       by-ordinal : (k : ℕ) → 1 ≤ k → k ≤ 5
           → (ordinalMask group 1 ≡ maskOf 1) × (ordinalMask group 2 ≡ maskOf 2) × (ordinalMask group 3 ≡ maskOf 3) × (ordinalMask group 4 ≡ maskOf 4) × (ordinalMask group 5 ≡ maskOf 5)
@@ -59,7 +61,8 @@ module _ (minus : Bool) (es : List Entry) where
       by-ordinal (suc (suc (suc (suc (suc (suc k)))))) l h m = absurd (omega arith)
 
 -- a weekday of an ordinal is one of the list's
-ordinal-bit : (minus : Bool) (es : List Entry) (k w : ℕ) → 1 ≤ k → k ≤ 5 → w < 7 → bit (ordinalMask (ordinalsOf minus es) k) w ≡ anyOf (isOrdinal minus k w) es
+ordinal-bit : (minus : Bool) (es : List Entry) (k w : ℕ) → 1 ≤ k → k ≤ 5 → w < 7
+    → bit (ordinalMask (ordinalsOf minus es) k) w ≡ anyOf (isOrdinal minus k w) es
 ordinal-bit minus es k w l h b =
     ap (λ (m : ℕ). bit m w) (ordinal-mask minus es k l h) ∙ bit-in-mask (λ v. anyOf (isOrdinal minus k v) es) 7 0 w (omega arith) b
 
@@ -74,7 +77,8 @@ module _ (d : ℕ) (h : d < windowDays) where
   its-place : (m : Bool) (x : ℕ) → (eqb x (placed false) && not m || eqb x (placed true) && m) ≡ eqb x (placed m)
   its-place m x = ap₂ _||_ (and-comm (eqb x (placed false)) (not m)) (and-comm (eqb x (placed true)) m) ∙ either-sign placed m x
 
-  entry-is : (e : Entry) → (isPlain (localWeekday d) e || (isOrdinal false (placed false) (localWeekday d) e || isOrdinal true (placed true) (localWeekday d) e)) ≡ entryHas d e
+  entry-is : (e : Entry)
+      → (isPlain (localWeekday d) e || (isOrdinal false (placed false) (localWeekday d) e || isOrdinal true (placed true) (localWeekday d) e)) ≡ entryHas d e
   unfolding entryHas
   entry-is (plain w) = or-false (eqb w (localWeekday d)) ∙ same-either-way w (localWeekday d)
   entry-is (ordinal n w) =
@@ -93,7 +97,8 @@ module _ (d : ℕ) (h : d < windowDays) where
       ordinal-bit minus es (placed minus) w (omega arith) (omega (arith, place-high minus d h)) (weekday-at-most d) in
       ap₂ _||_ (plain-bit es w (weekday-at-most d))
       (ap₂ _||_ (bits false) (bits true)
-      ∙ any-either (isOrdinal false (placed false) w) (isOrdinal true (placed true) w) (λ e. isOrdinal false (placed false) w e || isOrdinal true (placed true) w e) (λ e. refl) es)
+      ∙ any-either (isOrdinal false (placed false) w) (isOrdinal true (placed true) w)
+      (λ e. isOrdinal false (placed false) w e || isOrdinal true (placed true) w e) (λ e. refl) es)
       ∙ any-either (isPlain w) (λ e. isOrdinal false (placed false) w e || isOrdinal true (placed true) w e) (entryHas d) entry-is es
 
 -- a list that is given is a limit
@@ -111,13 +116,16 @@ own-ordinal n w false e = rw (e, eq-eqb (n .number) (n .number) refl, eq-eqb w w
 no-ordinal : (k : ℕ) → ordinalMask 0 k ≡ 0
 no-ordinal k = rw (zero-div (256 ^ (5 - k))) refl
 
-pub entries-limit : (es : List Entry) → listed entryGood es ≡ true → (eqb (maskFrom (λ w. anyOf (isPlain w) es) 7 0) 0 && noLimit (ordinalEnds es)) ≡ false
+pub entries-limit : (es : List Entry) → listed entryGood es ≡ true
+    → (eqb (maskFrom (λ w. anyOf (isPlain w) es) 7 0) 0 && noLimit (ordinalEnds es)) ≡ false
 unfolding entryInRange
 entries-limit [] l = absurd (false≢true l)
 entries-limit (plain w ∷ es) l =
     let p = both-true (ltb w 7) (allOf entryGood es) l in
     let a : anyOf (isPlain w) (plain w ∷ es) ≡ true = rw (eq-eqb w w refl) refl in
-    rw (bit-not-zero (λ m. m) refl (maskFrom (λ v. anyOf (isPlain v) (plain w ∷ es)) 7 0) w (plain-bit (plain w ∷ es) w (ltb-true w 7 (p .0)) ∙ a)) refl
+    rw
+    (bit-not-zero (λ m. m) refl (maskFrom (λ v. anyOf (isPlain v) (plain w ∷ es)) 7 0) w (plain-bit (plain w ∷ es) w (ltb-true w 7 (p .0)) ∙ a))
+    refl
 entries-limit (ordinal n w ∷ es) l =
     let p = both-true (within 1 5 (n .number) && ltb w 7) (allOf entryGood es) l in
     let q = both-true (within 1 5 (n .number)) (ltb w 7) (p .0) in
@@ -125,9 +133,11 @@ entries-limit (ordinal n w ∷ es) l =
     let a : anyOf (isOrdinal (n .minus) (n .number) w) (ordinal n w ∷ es) ≡ true = rw (own-ordinal n w (n .minus) refl) refl in
     let b : bit (ordinalMask (ordinalsOf (n .minus) (ordinal n w ∷ es)) (n .number)) w ≡ true =
     ordinal-bit (n .minus) (ordinal n w ∷ es) (n .number) w (r .0) (r .1) (ltb-true w 7 (q .1)) ∙ a in
-    rw (end-limits (ordinalEnds (ordinal n w ∷ es)) (n .minus) (own-end (n .minus) (bit-not-zero (λ g. ordinalMask g (n .number)) (no-ordinal (n .number)) (ordinalsOf (n .minus) (ordinal n w ∷ es)) w b)))
+    rw
+    (end-limits (ordinalEnds (ordinal n w ∷ es)) (n .minus) (own-end (n .minus) (bit-not-zero (λ g. ordinalMask g (n .number)) (no-ordinal (n .number)) (ordinalsOf (n .minus) (ordinal n w ∷ es)) w b)))
     (and-false (eqb (maskFrom (λ v. anyOf (isPlain v) (ordinal n w ∷ es)) 7 0) 0))
   where
-    own-end : (minus : Bool) → eqb (ordinalsOf minus (ordinal n w ∷ es)) 0 ≡ false → eqb (endOf minus (ordinalEnds (ordinal n w ∷ es))) 0 ≡ false
+    own-end : (minus : Bool) → eqb (ordinalsOf minus (ordinal n w ∷ es)) 0 ≡ false
+        → eqb (endOf minus (ordinalEnds (ordinal n w ∷ es))) 0 ≡ false
     own-end true e = e
     own-end false e = e

@@ -16,7 +16,8 @@ anything-passes none = refl
 anything-passes (some a) = refl
 
 -- one of two
-pub cond-passes : {A : Type 0} (test : A → Bool) (b : Bool) (x y : Option A) → givenPasses test x ≡ true → givenPasses test y ≡ true → givenPasses test (cond b x y) ≡ true
+pub cond-passes : {A : Type 0} (test : A → Bool) (b : Bool) (x y : Option A) → givenPasses test x ≡ true → givenPasses test y ≡ true
+    → givenPasses test (cond b x y) ≡ true
 cond-passes test true x y e f = e
 cond-passes test false x y e f = f
 
@@ -38,7 +39,8 @@ some-piece separator (c ∷ cs) =
 
 -- a list of what passes
 module _ {A : Type 0} (test : A → Bool) (form : List ℕ → Option A) (each : (s : List ℕ) → givenPasses test (form s) ≡ true) where
-  first-passes : (x : Option A) (xs : Option (List A)) → givenPasses test x ≡ true → givenPasses (allOf test) xs ≡ true → givenPasses (listed test) (consOf x xs) ≡ true
+  first-passes : (x : Option A) (xs : Option (List A)) → givenPasses test x ≡ true → givenPasses (allOf test) xs ≡ true
+      → givenPasses (listed test) (consOf x xs) ≡ true
   unfolding consOf
   first-passes none xs e f = refl
   first-passes (some x) none e f = refl

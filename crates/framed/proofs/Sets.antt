@@ -53,7 +53,8 @@ module _ (first d : ℕ) (h : d < windowDays) where
   numbers-have : (ns : List Signed) → listed dayNumberInRange ns ≡ true → limitHas (endsOf ns) ≡ anyOf (monthDayHas d) ns
   unfolding monthDayHas
   numbers-have ns l =
-      rw (ends-limit ns l) (ends-hold (localDate d .day) (fromEnd d) ns (place-low false d h) (place-high false d h) (place-low true d h) (place-high true d h))
+      rw (ends-limit ns l)
+      (ends-hold (localDate d .day) (fromEnd d) ns (place-low false d h) (place-high false d h) (place-low true d h) (place-high true d h))
 
   own-day-has : limitHas (record { front = 2 ^ localDate first .day; back = 0 }) ≡ eqb (localDate d .day) (localDate first .day)
   own-day-has =
@@ -92,7 +93,8 @@ module _ (first d : ℕ) (h : d < windowDays) where
   entries-have r daily none w o l = any-weekday r (localDate d .day) (fromEnd d) (localWeekday d) (rw o refl) w
   entries-have r weekly none w o l =
       let x : ℕ = localWeekday first in
-      plain-weekday r (localDate d .day) (fromEnd d) (localWeekday d) (rw o refl) (rw w (power-limits x)) ∙ rw w (bit-of-power x (localWeekday d))
+      plain-weekday r (localDate d .day) (fromEnd d) (localWeekday d) (rw o refl) (rw w (power-limits x))
+      ∙ rw w (bit-of-power x (localWeekday d))
   entries-have r monthly none w o l = any-weekday r (localDate d .day) (fromEnd d) (localWeekday d) (rw o refl) w
 
   -- ---- both

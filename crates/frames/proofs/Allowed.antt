@@ -35,7 +35,8 @@ module _ (f : Rule) (day back weekday : ℕ) where
   unfolding weekdayAllowed
   any-weekday l z = rw (l, z) refl
 
-  pub plain-weekday : noLimit (f .ordinals) ≡ true → eqb (f .weekdays) 0 ≡ false → weekdayAllowed f day back weekday ≡ bit (f .weekdays) weekday
+  pub plain-weekday : noLimit (f .ordinals) ≡ true → eqb (f .weekdays) 0 ≡ false
+      → weekdayAllowed f day back weekday ≡ bit (f .weekdays) weekday
   unfolding weekdayAllowed
   plain-weekday l w = rw (w, no-ordinal (f .ordinals) day back weekday l) (or-false (bit (f .weekdays) weekday))
 

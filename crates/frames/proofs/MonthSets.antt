@@ -53,7 +53,8 @@ pub month-bit : (test : ℕ → Bool) (k n : ℕ) → InMonth k n → bit (maskF
 month-bit test k n i = bit-in-mask test (monthDays k) 1 n (i .low) (omega (arith, i .high))
 
 -- a set built up a day at a time
-built : (test : ℕ → Bool) (n : ℕ) → 1 ≤ n → n ≤ 31 → maskFrom test (n + 1 - 1) 1 ≡ cond (test n) (withBit (maskFrom test (n - 1) 1) n) (maskFrom test (n - 1) 1)
+built : (test : ℕ → Bool) (n : ℕ) → 1 ≤ n → n ≤ 31
+    → maskFrom test (n + 1 - 1) 1 ≡ cond (test n) (withBit (maskFrom test (n - 1) 1) n) (maskFrom test (n - 1) 1)
 built test n l h =
     let e : n + 1 - 1 ≡ suc (n - 1) = omega arith in
     let g : 1 + (n - 1) ≡ n = omega arith in
@@ -67,7 +68,8 @@ pub built-next : (test : ℕ → Bool) (n set : ℕ) → 1 ≤ n → n ≤ 31 �
     → cond b (withBit set n) set ≡ maskFrom test (n + 1 - 1) 1
 built-next test n set l h e b t = rw (built test n l h, t, e)
 
-pub built-without : (test : ℕ → Bool) (n set : ℕ) → 1 ≤ n → n ≤ 31 → set ≡ maskFrom test (n - 1) 1 → test n ≡ false → set ≡ maskFrom test (n + 1 - 1) 1
+pub built-without : (test : ℕ → Bool) (n set : ℕ) → 1 ≤ n → n ≤ 31 → set ≡ maskFrom test (n - 1) 1 → test n ≡ false
+    → set ≡ maskFrom test (n + 1 - 1) 1
 built-without test n set l h e t = built-next test n set l h e false t
 
 pub built-whole : (test : ℕ → Bool) (n len set : ℕ) → set ≡ maskFrom test (n - 1) 1 → n ≡ len + 1 → set ≡ maskFrom test len 1
@@ -76,7 +78,8 @@ built-whole test n len set e d =
     e ∙ ap (λ (k : ℕ). maskFrom test k 1) g
 
 -- a frame's day by its place
-pub cron-day-at : (f : Cron) (k n : ℕ) → InMonth k n → cronDay f (dayOf k n) ≡ cronDayAt f (k % 12 + 1) n ((localWeekday (monthFirst k) + (n - 1)) % 7)
+pub cron-day-at : (f : Cron) (k n : ℕ) → InMonth k n
+    → cronDay f (dayOf k n) ≡ cronDayAt f (k % 12 + 1) n ((localWeekday (monthFirst k) + (n - 1)) % 7)
 unfolding cronDay
 cron-day-at f k n i = rw (month-of-day k n i, day-of-day k n i, weekday-of-day k n i)
 

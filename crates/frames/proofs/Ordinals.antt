@@ -62,7 +62,8 @@ front-week n d h l =
     ∙ week-bits (7 * n + 1) d
     ∙ in-week (7 * n + 1) d ((d - 1) / 7) n (λ e. (omega arith, omega arith)) (λ e g. omega arith)
 
-pub back-week : (n d len : ℕ) → n < 5 → 28 ≤ len → len ≤ 31 → 1 ≤ d → d ≤ len → bit (127 * 2 ^ (len - 7 * n) % 2 ^ 64 / 2 ^ 6) d ≡ eqb ((len - d) / 7) n
+pub back-week : (n d len : ℕ) → n < 5 → 28 ≤ len → len ≤ 31 → 1 ≤ d → d ≤ len
+    → bit (127 * 2 ^ (len - 7 * n) % 2 ^ 64 / 2 ^ 6) d ≡ eqb ((len - d) / 7) n
 back-week n d len h a b l u =
     ap (λ (x : ℕ). bit (x / 2 ^ 6) d) (shl-exact {a = 127} 7 (len - 7 * n) 64 (omega arith) (omega arith))
     ∙ bit-of-quotient (127 * 2 ^ (len - 7 * n)) 6 d
@@ -99,7 +100,8 @@ module _ (e : Ends) (first len d : ℕ) where
       let x : ℕ = (d - 1) / 7 in
       let y : ℕ = (len - d) / 7 in
       regrouped (ltb x n && a x) (ltb y n && b y) (eqb x n && a n) (eqb y n && b n)
-      ∙ ap₂ _||_ (one-more (λ m. bit (ordinalMask (e .front) (m + 1)) weekday) x n) (one-more (λ m. bit (ordinalMask (e .back) (m + 1)) weekday) y n)
+      ∙ ap₂ _||_ (one-more (λ m. bit (ordinalMask (e .front) (m + 1)) weekday) x n)
+      (one-more (λ m. bit (ordinalMask (e .back) (m + 1)) weekday) y n)
 
   pub below-all : d ≤ len → len ≤ 31 → below 5 ≡ ordinalAllowed e d (len + 1 - d) weekday
   below-all h l =

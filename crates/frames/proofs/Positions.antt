@@ -46,7 +46,8 @@ module _ (t : ℕ → Bool) (base len n : ℕ) (h : n ≤ len) (short : len ≤ 
       let e : min (n + 1) 64 ≡ suc n = omega arith in
       let b : base + 0 ≡ base = omega arith in
       let z : bit (maskFrom (λ j. t (base + (j - 1))) len 1) 0 ≡ false = bit-below-mask (λ j. t (base + (j - 1))) len 1 0 (omega arith) in
-      let a : countFrom (bit (maskFrom (λ j. t (base + (j - 1))) len 1)) n 1 ≡ countFrom t n base = bits-counted n 0 (omega arith) ∙ ap (countFrom t n) b in
+      let a : countFrom (bit (maskFrom (λ j. t (base + (j - 1))) len 1)) n 1 ≡ countFrom t n base =
+      bits-counted n 0 (omega arith) ∙ ap (countFrom t n) b in
       rw e (rw z (omega (arith, a)))
 
   -- and from the end: those from day n on
@@ -57,8 +58,10 @@ module _ (t : ℕ → Bool) (base len n : ℕ) (h : n ≤ len) (short : len ≤ 
       let g : suc (n - 1) ≡ n = omega arith in
       let z : countFrom (bit set) (63 - len) (n + (len + 1 - n)) ≡ 0 =
       none-counted (bit set) (63 - len) (n + (len + 1 - n)) (λ j a. bit-above-mask (λ i. t (base + (i - 1))) len 1 j (omega arith)) in
-      let a : countFrom (bit set) (len + 1 - n) (suc (n - 1)) ≡ countFrom t (len + 1 - n) (base + (n - 1)) = bits-counted (len + 1 - n) (n - 1) (omega arith) in
-      let b : countFrom (bit set) (len + 1 - n) (suc (n - 1)) ≡ countFrom (bit set) (len + 1 - n) n = ap (countFrom (bit set) (len + 1 - n)) g in
+      let a : countFrom (bit set) (len + 1 - n) (suc (n - 1)) ≡ countFrom t (len + 1 - n) (base + (n - 1)) =
+      bits-counted (len + 1 - n) (n - 1) (omega arith) in
+      let b : countFrom (bit set) (len + 1 - n) (suc (n - 1)) ≡ countFrom (bit set) (len + 1 - n) n =
+      ap (countFrom (bit set) (len + 1 - n)) g in
       let c : countFrom (bit set) (64 - n) n ≡ countFrom (bit set) (len + 1 - n) n + countFrom (bit set) (63 - len) (n + (len + 1 - n)) =
       ap (λ (x : ℕ). countFrom (bit set) x n) e ∙ count-parts (bit set) (len + 1 - n) (63 - len) n in
       omega (arith, a, b, c, z)

@@ -31,7 +31,8 @@ all-five = tt
 twice : (w i : ℕ) → w < 128 → i < 14 → bit (w * 129) i ≡ bit w (i % 7)
 unfolding twoWeeks
 twice w i h l =
-    let e : w * 129 / 2 ^ (7 * (i / 7)) % 128 ≡ w = eqb→eq _ _ (every (twoWeeks (i / 7)) 128 (every (λ s. everyBelow (twoWeeks s) 128) 2 all-two (i / 7) (omega arith)) w h) in
+    let e : w * 129 / 2 ^ (7 * (i / 7)) % 128 ≡ w =
+    eqb→eq _ _ (every (twoWeeks (i / 7)) 128 (every (λ s. everyBelow (twoWeeks s) 128) 2 all-two (i / 7) (omega arith)) w h) in
     let f : 7 * (i / 7) + i % 7 ≡ i = omega arith in
     ap (bit (w * 129)) (sym f) ∙ digit-bit (w * 129) w (7 * (i / 7)) (i % 7) e (omega arith)
 
@@ -39,7 +40,8 @@ five : (t n : ℕ) → t < 128 → 1 ≤ n → n ≤ 31 → bit (t * 541098242) 
 unfolding fiveWeeks
 five t n h l u =
     let s : ℕ = (n - 1) / 7 in
-    let e : t * 541098242 / 2 ^ (7 * ((n - 1) / 7) + 1) % 128 ≡ t = eqb→eq _ _ (every (fiveWeeks s) 128 (every (λ s. everyBelow (fiveWeeks s) 128) 5 all-five s (omega arith)) t h) in
+    let e : t * 541098242 / 2 ^ (7 * ((n - 1) / 7) + 1) % 128 ≡ t =
+    eqb→eq _ _ (every (fiveWeeks s) 128 (every (λ s. everyBelow (fiveWeeks s) 128) 5 all-five s (omega arith)) t h) in
     let f : 7 * ((n - 1) / 7) + 1 + (n - 1) % 7 ≡ n = omega arith in
     ap (bit (t * 541098242)) (sym f) ∙ digit-bit (t * 541098242) t (7 * ((n - 1) / 7) + 1) ((n - 1) % 7) e (omega arith)
 

@@ -57,7 +57,8 @@ module _ (l : List ℕ) (n3 : getD l 0 0 ≡ 3 → ⊥) (e : getD l 0 0 ≡ 4) w
   rule-whole end h = record { to = omega arith; same = λ m b. rule-same m (omega arith); none = λ m a b. absurd (omega arith) }
 
 -- and no frame of another kind but an extra minute holds any
-pub other-cut : (l : List ℕ) (end : ℕ) → (getD l 0 0 ≡ 3 → ⊥) → (getD l 0 0 ≡ 4 → ⊥) → (getD l 0 0 ≡ 5 → ⊥) → Cut (minutePart l) (frameHeld l) end end
+pub other-cut : (l : List ℕ) (end : ℕ) → (getD l 0 0 ≡ 3 → ⊥) → (getD l 0 0 ≡ 4 → ⊥) → (getD l 0 0 ≡ 5 → ⊥)
+    → Cut (minutePart l) (frameHeld l) end end
 unfolding dayHeld frameHeld
 other-cut l end p q r =
     record {

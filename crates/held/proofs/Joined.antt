@@ -15,7 +15,8 @@ use Rattle.held.specs.Minutes.{leastMinute, lastMinute}
 use Rattle.days.proofs.Answers.{least-of, last-of}
 
 -- what the first answer leaves is searched by the second test
-pub least-either : (t u both : ℕ → Bool) (low high b r : ℕ) → ((m : ℕ) → both m ≡ (t m || u m)) → Least t low high b → Least u low b r → Least both low high r
+pub least-either : (t u both : ℕ → Bool) (low high b r : ℕ) → ((m : ℕ) → both m ≡ (t m || u m)) → Least t low high b → Least u low b r
+    → Least both low high r
 least-either t u both low high b r e p q =
     record {
       from = q .from;
@@ -28,7 +29,8 @@ least-either t u both low high b r e p q =
       fails = λ j l h. e j ∙ rw (p .fails j l (omega (arith, q .to)), q .fails j l h);
     }
 
-pub last-either : (t u both : ℕ → Bool) (low high b r : ℕ) → ((m : ℕ) → both m ≡ (t m || u m)) → Last t low high b → Last u b high r → Last both low high r
+pub last-either : (t u both : ℕ → Bool) (low high b r : ℕ) → ((m : ℕ) → both m ≡ (t m || u m)) → Last t low high b → Last u b high r
+    → Last both low high r
 last-either t u both low high b r e p q =
     record {
       from = omega (arith, p .from, q .from);
@@ -42,7 +44,8 @@ last-either t u both low high b r e p q =
     }
 
 -- one frame more; a frame past the end holds nothing
-pub any-next : (test : List ℕ → Bool) → test [] ≡ false → (fs : List (List ℕ)) (i : ℕ) → anyOf test (take (suc i) fs) ≡ (anyOf test (take i fs) || test (getD fs i []))
+pub any-next : (test : List ℕ → Bool) → test [] ≡ false → (fs : List (List ℕ)) (i : ℕ)
+    → anyOf test (take (suc i) fs) ≡ (anyOf test (take i fs) || test (getD fs i []))
 any-next test n [] zero = sym n
 any-next test n [] (suc i) = sym n
 any-next test n (x ∷ xs) zero = or-false (test x)
@@ -50,7 +53,8 @@ any-next test n (x ∷ xs) (suc i) =
     ap (λ (b : Bool). test x || b) (any-next test n xs i) ∙ sym (or-assoc (test x) (anyOf test (take i xs)) (test (getD xs i [])))
 
 -- one that passes is enough
-any-some : (test : List ℕ → Bool) → test [] ≡ false → (fs : List (List ℕ)) (i n : ℕ) → i < n → test (getD fs i []) ≡ true → anyOf test (take n fs) ≡ true
+any-some : (test : List ℕ → Bool) → test [] ≡ false → (fs : List (List ℕ)) (i n : ℕ) → i < n → test (getD fs i []) ≡ true
+    → anyOf test (take n fs) ≡ true
 any-some test e fs i zero h t = absurd (omega arith)
 any-some test e [] i (suc n) h t = absurd (true≢false (sym t ∙ e))
 any-some test e (x ∷ xs) zero (suc n) h t = rw t
@@ -68,7 +72,8 @@ pub held-next : (fs : List (List ℕ)) (i m : ℕ) → anyHeld (take (i + 1) fs)
 held-next fs i m =
     let e : i + 1 ≡ suc i = omega arith in rw e (any-next (λ (l : List ℕ). frameHeld l m) (none-holds m) fs i)
 
-pub excepts-next : (fs : List (List ℕ)) (i m : ℕ) → anyExcepts (take (i + 1) fs) m ≡ (anyExcepts (take i fs) m || frameExcepts (getD fs i []) m)
+pub excepts-next : (fs : List (List ℕ)) (i m : ℕ)
+    → anyExcepts (take (i + 1) fs) m ≡ (anyExcepts (take i fs) m || frameExcepts (getD fs i []) m)
 excepts-next fs i m =
     let e : i + 1 ≡ suc i = omega arith in rw e (any-next (λ (l : List ℕ). frameExcepts l m) (none-excepts m) fs i)
 

@@ -19,7 +19,8 @@ module _ (day time : ℕ → Bool) where
   on-day d t m e g p q = rw (e, g, p, q)
 
   -- no day of the range
-  pub days-none : (low high e d : ℕ) → low ≤ high → high ≤ 1440 * e → Least day (low / 1440) e d → e ≤ d → Least (dayAndTime day time) low high high
+  pub days-none : (low high e d : ℕ) → low ≤ high → high ≤ 1440 * e → Least day (low / 1440) e d → e ≤ d
+      → Least (dayAndTime day time) low high high
   days-none low high e d l h a n =
       least-none (dayAndTime day time) low high l (λ j b c. no-day (j / 1440) j refl (a .fails (j / 1440) (omega arith) (omega arith)))
 
@@ -28,11 +29,13 @@ module _ (day time : ℕ → Bool) where
   times-none low high t l a n =
       least-none (dayAndTime day time) low high l (λ j b c. no-time (j % 1440) j refl (a .fails (j % 1440) (omega arith) (omega arith)))
 
-  pub time-past : (low t : ℕ) → Least time (low % 1440) 1440 t → 1440 ≤ t → (j : ℕ) → low ≤ j → j < 1440 * (low / 1440 + 1) → dayAndTime day time j ≡ false
+  pub time-past : (low t : ℕ) → Least time (low % 1440) 1440 t → 1440 ≤ t → (j : ℕ) → low ≤ j → j < 1440 * (low / 1440 + 1)
+      → dayAndTime day time j ≡ false
   time-past low t a n j b c = no-time (j % 1440) j refl (a .fails (j % 1440) (omega arith) (omega arith))
 
   -- the day of low itself, from its time on
-  pub found-today : (low high d t : ℕ) → low ≤ high → d ≡ low / 1440 → day d ≡ true → Least time (low % 1440) 1440 t → t < 1440 → Least (dayAndTime day time) low high (min (1440 * d + t) high)
+  pub found-today : (low high d t : ℕ) → low ≤ high → d ≡ low / 1440 → day d ≡ true → Least time (low % 1440) 1440 t → t < 1440
+      → Least (dayAndTime day time) low high (min (1440 * d + t) high)
   found-today low high d t l e p b q =
       record {
         from = omega (arith, e, b .from);
@@ -42,7 +45,8 @@ module _ (day time : ℕ → Bool) where
       }
 
   -- a later day, from its first time on
-  pub found-later : (low high e d t : ℕ) → low ≤ high → Least day (low / 1440) e d → d < e → low / 1440 < d → Least time 0 1440 t → t < 1440 → Least (dayAndTime day time) low high (min (1440 * d + t) high)
+  pub found-later : (low high e d t : ℕ) → low ≤ high → Least day (low / 1440) e d → d < e → low / 1440 < d → Least time 0 1440 t → t < 1440
+      → Least (dayAndTime day time) low high (min (1440 * d + t) high)
   found-later low high e d t l a p f b q =
       record {
         from = omega arith;
@@ -54,7 +58,8 @@ module _ (day time : ℕ → Bool) where
       }
 
   -- the same downwards
-  pub days-last-none : (low high to p : ℕ) → low ≤ high → high ≤ 1440 * to → Last day (low / 1440) to p → p ≤ low / 1440 → Last (dayAndTime day time) low high low
+  pub days-last-none : (low high to p : ℕ) → low ≤ high → high ≤ 1440 * to → Last day (low / 1440) to p → p ≤ low / 1440
+      → Last (dayAndTime day time) low high low
   days-last-none low high to p l h a n =
       last-none (dayAndTime day time) low high l (λ j b c. no-day (j / 1440) j refl (a .fails (j / 1440) (omega arith) (omega arith)))
 
@@ -62,10 +67,12 @@ module _ (day time : ℕ → Bool) where
   times-last-none low high t l a n =
       last-none (dayAndTime day time) low high l (λ j b c. no-time (j % 1440) j refl (a .fails (j % 1440) (omega arith) (omega arith)))
 
-  pub time-before : (high t : ℕ) → 0 < high → Last time 0 (high - 1440 * ((high - 1) / 1440)) t → t ≡ 0 → (j : ℕ) → 1440 * ((high - 1) / 1440) ≤ j → j < high → dayAndTime day time j ≡ false
+  pub time-before : (high t : ℕ) → 0 < high → Last time 0 (high - 1440 * ((high - 1) / 1440)) t → t ≡ 0 → (j : ℕ)
+      → 1440 * ((high - 1) / 1440) ≤ j → j < high → dayAndTime day time j ≡ false
   time-before high t h a n j b c = no-time (j % 1440) j refl (a .fails (j % 1440) (omega arith) (omega arith))
 
-  pub last-today : (low high d t : ℕ) → low < high → d ≡ (high - 1) / 1440 → day d ≡ true → Last time 0 (high - 1440 * ((high - 1) / 1440)) t → 0 < t → Last (dayAndTime day time) low high (max (1440 * d + t) low)
+  pub last-today : (low high d t : ℕ) → low < high → d ≡ (high - 1) / 1440 → day d ≡ true
+      → Last time 0 (high - 1440 * ((high - 1) / 1440)) t → 0 < t → Last (dayAndTime day time) low high (max (1440 * d + t) low)
   last-today low high d t l e p b q =
       record {
         from = omega arith;
@@ -74,12 +81,14 @@ module _ (day time : ℕ → Bool) where
         fails = λ j c g. no-time (j % 1440) j refl (b .fails (j % 1440) (omega (arith, e)) (omega (arith, e)));
       }
 
-  pub last-earlier : (low high p t : ℕ) → low < high → Last day (low / 1440) ((high - 1) / 1440 + 1) p → low / 1440 < p → p ≤ (high - 1) / 1440 → Last time 0 1440 t → 0 < t → Last (dayAndTime day time) low high (max (1440 * (p - 1) + t) low)
+  pub last-earlier : (low high p t : ℕ) → low < high → Last day (low / 1440) ((high - 1) / 1440 + 1) p → low / 1440 < p
+      → p ≤ (high - 1) / 1440 → Last time 0 1440 t → 0 < t → Last (dayAndTime day time) low high (max (1440 * (p - 1) + t) low)
   last-earlier low high p t l a h f b q =
       record {
         from = omega arith;
         to = omega (arith, b .to);
-        passes = λ g. on-day (p - 1) (t - 1) (max (1440 * (p - 1) + t) low - 1) (omega (arith, b .to)) (omega (arith, b .to)) (a .passes h) (b .passes q);
+        passes = λ g. on-day (p - 1) (t - 1) (max (1440 * (p - 1) + t) low - 1) (omega (arith, b .to)) (omega (arith, b .to)) (a .passes h)
+            (b .passes q);
         fails = λ j c g.
             dite (decLt (j / 1440) p) (λ (s : j / 1440 < p). no-time (j % 1440) j refl (b .fails (j % 1440) (omega arith) (omega arith)))
             (λ (s : j / 1440 < p → ⊥). no-day (j / 1440) j refl (a .fails (j / 1440) (omega arith) (omega arith)));

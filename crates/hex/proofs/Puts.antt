@@ -15,7 +15,8 @@ use Rattle.hex.specs.Hex.{hexDigit, hexOf, putAt}
 pub length-hex : (k v : ℕ) → length (hexOf k v) ≡ 2 * k
 unfolding hexOf
 length-hex zero v = refl
-length-hex (suc k) v = length-append (hexOf k (v / 256)) (hexDigit (v / 16 % 16) ∷ hexDigit (v % 16) ∷ []) ∙ rw (length-hex k (v / 256)) (omega arith)
+length-hex (suc k) v =
+    length-append (hexOf k (v / 256)) (hexDigit (v / 16 % 16) ∷ hexDigit (v % 16) ∷ []) ∙ rw (length-hex k (v / 256)) (omega arith)
 
 -- a part of a list replaced
 abbrev pub replaced : List ℕ → ℕ → List ℕ → List ℕ

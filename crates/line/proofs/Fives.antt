@@ -39,7 +39,8 @@ data CronAt : Option (Form × ℕ) → Type 0 where
   nothing : CronAt none
   five : (m h d mo w : Field) (e : ℕ) → CronAt (some (cron m h d mo w, e))
 
-then-at : (s : List ℕ) (more : Field → ℕ → Option (Form × ℕ)) → ((x : Field) (e : ℕ) → CronAt (more x e)) → (o : Option (Field × ℕ)) → CronAt (thenAt 32 s more o)
+then-at : (s : List ℕ) (more : Field → ℕ → Option (Form × ℕ)) → ((x : Field) (e : ℕ) → CronAt (more x e)) → (o : Option (Field × ℕ))
+    → CronAt (thenAt 32 s more o)
 then-at s more h none = nothing
 then-at s more h (some r) = by-byte (eqb (getD s (r .1) 0) 32)
   where
@@ -97,20 +98,25 @@ module _ (s : List ℕ) (at : ℕ) where
       by-form none nothing e = let z : _≡_ {A = ℕ} 0 1 = cc in absurd (omega arith)
       by-form (some r) (five m h d mo w f) e = by-range (inRange (cron m h d mo w)) refl e
         where
-          by-range : (b : Bool) → inRange (cron m h d mo w) ≡ b → Five.Outside c ≡ cond b (Five.Is (cronFrame m h d mo w) (cursor f)) (Five.Outside (cursor f)) → FiveAre (some (cron m h d mo w, f)) false c
+          by-range : (b : Bool) → inRange (cron m h d mo w) ≡ b
+              → Five.Outside c ≡ cond b (Five.Is (cronFrame m h d mo w) (cursor f)) (Five.Outside (cursor f))
+              → FiveAre (some (cron m h d mo w, f)) false c
           by-range true g e = let z : _≡_ {A = ℕ} 0 1 = cc in absurd (omega arith)
           by-range false g e =
               record { minute = m; hour = h; day = d; month = mo; weekday = w; read = ap (λ (k : ℕ). some (cron m h d mo w, k)) (sym (ap afterIn e)); range = g }
 
-  pub five-is : (frame : Cron) (c : Cursor) → Five.Is frame c ≡ fiveAs (cronRead s at) → (a : FiveAre (cronRead s at) true c) × (frame ≡ cronFrame (a .minute) (a .hour) (a .day) (a .month) (a .weekday))
+  pub five-is : (frame : Cron) (c : Cursor) → Five.Is frame c ≡ fiveAs (cronRead s at)
+      → (a : FiveAre (cronRead s at) true c) × (frame ≡ cronFrame (a .minute) (a .hour) (a .day) (a .month) (a .weekday))
   unfolding fiveAs afterIn frameIn
   five-is frame c e = by-form (cronRead s at) (cron-at s at) e
     where
-      by-form : (o : Option (Form × ℕ)) → CronAt o → Five.Is frame c ≡ fiveAs o → (a : FiveAre o true c) × (frame ≡ cronFrame (a .minute) (a .hour) (a .day) (a .month) (a .weekday))
+      by-form : (o : Option (Form × ℕ)) → CronAt o → Five.Is frame c ≡ fiveAs o
+          → (a : FiveAre o true c) × (frame ≡ cronFrame (a .minute) (a .hour) (a .day) (a .month) (a .weekday))
       by-form none nothing e = let z : _≡_ {A = ℕ} 0 1 = cc in absurd (omega arith)
       by-form (some r) (five m h d mo w f) e = by-range (inRange (cron m h d mo w)) refl e
         where
-          by-range : (b : Bool) → inRange (cron m h d mo w) ≡ b → Five.Is frame c ≡ cond b (Five.Is (cronFrame m h d mo w) (cursor f)) (Five.Outside (cursor f))
+          by-range : (b : Bool) → inRange (cron m h d mo w) ≡ b
+              → Five.Is frame c ≡ cond b (Five.Is (cronFrame m h d mo w) (cursor f)) (Five.Outside (cursor f))
               → (a : FiveAre (some (cron m h d mo w, f)) true c) × (frame ≡ cronFrame (a .minute) (a .hour) (a .day) (a .month) (a .weekday))
           by-range true g e =
               (record { minute = m; hour = h; day = d; month = mo; weekday = w; read = ap (λ (k : ℕ). some (cron m h d mo w, k)) (sym (ap afterIn e)); range = g }, ap (λ (x : Five). frameIn x frame) e)
@@ -124,22 +130,28 @@ module _ (c : Context) (form : Option Form) (o : Option (Form × ℕ)) (at end :
   stands : (b : Bool) → otherStands (c .before) ≡ b → inPlace (beforeAs (c .before)) line ≡ b
   stands b e = cron-place (c .before) (a .minute) (a .hour) (a .day) (a .month) (a .weekday) ∙ e
 
-  lined-five : (answer : Lined) → (otherStands (c .before) ≡ true → answer ≡ linedForm (contextAs c) (some line)) → standing end (c .before) (x .at) answer ≡ linedForm (contextAs c) form
+  lined-five : (answer : Lined) → (otherStands (c .before) ≡ true → answer ≡ linedForm (contextAs c) (some line))
+      → standing end (c .before) (x .at) answer ≡ linedForm (contextAs c) form
   lined-five answer h = by-end (eqb (x .at) end) refl
     where
       by-place : (b : Bool) → otherStands (c .before) ≡ b → cond b answer (Lined.Refused 4) ≡ linedForm (contextAs c) (some line)
       by-place true e = h e
       by-place false e = out-of-place (contextAs c) line (stands false e)
 
-      by-end : (b : Bool) → eqb (x .at) end ≡ b → cond b (cond (otherStands (c .before)) answer (Lined.Refused 4)) (Lined.Refused 3) ≡ linedForm (contextAs c) form
-      by-end true e = by-place (otherStands (c .before)) refl ∙ lined-whole (contextAs c) form o at end t line (x .at) (a .read) (eqb-true (x .at) end e)
+      by-end : (b : Bool) → eqb (x .at) end ≡ b
+          → cond b (cond (otherStands (c .before)) answer (Lined.Refused 4)) (Lined.Refused 3) ≡ linedForm (contextAs c) form
+      by-end true e =
+          by-place (otherStands (c .before)) refl
+          ∙ lined-whole (contextAs c) form o at end t line (x .at) (a .read) (eqb-true (x .at) end e)
       by-end false e = lined-short (contextAs c) form o at end t line (x .at) (a .read) (eqb-false (x .at) end e)
 
 module _ (c : Context) (form : Option Form) (o : Option (Form × ℕ)) (at end : ℕ) (t : Tied form o at end) (x : Cursor) where
   pub lined-outside : FiveAre o false x → standing end (c .before) (x .at) (Lined.Refused 5) ≡ linedForm (contextAs c) form
-  lined-outside a = lined-five c form o at end t false x a (Lined.Refused 5) (λ e. out-of-range (contextAs c) (line c form o at end t false x a) (stands c form o at end t false x a true e) (a .range))
+  lined-outside a =
+      lined-five c form o at end t false x a (Lined.Refused 5) (λ e. out-of-range (contextAs c) (line c form o at end t false x a) (stands c form o at end t false x a true e) (a .range))
 
-  pub lined-cron : (frame : Cron) (a : FiveAre o true x) → frame ≡ cronFrame (a .minute) (a .hour) (a .day) (a .month) (a .weekday) → standing end (c .before) (x .at) (Lined.Is (Frame.Cron frame)) ≡ linedForm (contextAs c) form
+  pub lined-cron : (frame : Cron) (a : FiveAre o true x) → frame ≡ cronFrame (a .minute) (a .hour) (a .day) (a .month) (a .weekday)
+      → standing end (c .before) (x .at) (Lined.Is (Frame.Cron frame)) ≡ linedForm (contextAs c) form
   unfolding together limitsKept startOccurs frameOf
   lined-cron frame a f =
       rw f

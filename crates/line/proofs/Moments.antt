@@ -21,16 +21,19 @@ abbrev pub momentFrame : Bool → ℕ → Frame
 momentFrame x m = cond x (Frame.Excepted m) (Frame.Extra m)
 
 module _ (c : Context) where
-  pub moment-out-of-place : (x : Bool) (t : Time) → otherStands (c .before) ≡ false → Lined.Refused 4 ≡ linedForm (contextAs c) (some (momentForm x t))
+  pub moment-out-of-place : (x : Bool) (t : Time) → otherStands (c .before) ≡ false
+      → Lined.Refused 4 ≡ linedForm (contextAs c) (some (momentForm x t))
   moment-out-of-place true t p = out-of-place (contextAs c) (except t) (except-place (c .before) t ∙ p)
   moment-out-of-place false t p = out-of-place (contextAs c) (extra t) (extra-place (c .before) t ∙ p)
 
-  pub moment-out-of-range : (x : Bool) (t : Time) → otherStands (c .before) ≡ true → timeInRange t ≡ false → Lined.Refused 5 ≡ linedForm (contextAs c) (some (momentForm x t))
+  pub moment-out-of-range : (x : Bool) (t : Time) → otherStands (c .before) ≡ true → timeInRange t ≡ false
+      → Lined.Refused 5 ≡ linedForm (contextAs c) (some (momentForm x t))
   unfolding inRange
   moment-out-of-range true t p r = out-of-range (contextAs c) (except t) (except-place (c .before) t ∙ p) r
   moment-out-of-range false t p r = out-of-range (contextAs c) (extra t) (extra-place (c .before) t ∙ p) r
 
-  pub moment-taken : (x : Bool) (t : Time) → otherStands (c .before) ≡ true → timeInRange t ≡ true → Lined.Is (momentFrame x (minuteOf t)) ≡ linedForm (contextAs c) (some (momentForm x t))
+  pub moment-taken : (x : Bool) (t : Time) → otherStands (c .before) ≡ true → timeInRange t ≡ true
+      → Lined.Is (momentFrame x (minuteOf t)) ≡ linedForm (contextAs c) (some (momentForm x t))
   unfolding inRange together limitsKept startOccurs frameOf
   moment-taken true t p r = taken (contextAs c) (except t) (except-place (c .before) t ∙ p) r refl refl refl
   moment-taken false t p r = taken (contextAs c) (extra t) (extra-place (c .before) t ∙ p) r refl refl refl

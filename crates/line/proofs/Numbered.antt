@@ -20,7 +20,8 @@ module _ (c : Context) where
   form-number none = refl
   form-number (some f) = by-number (eqb (formRefusal c f) 0) refl
     where
-      by-number : (b : Bool) → eqb (formRefusal c f) 0 ≡ b → refusalOf (cond b (Lined.Is (frameOf f)) (Lined.Refused (formRefusal c f))) ≡ formRefusal c f
+      by-number : (b : Bool) → eqb (formRefusal c f) 0 ≡ b
+          → refusalOf (cond b (Lined.Is (frameOf f)) (Lined.Refused (formRefusal c f))) ≡ formRefusal c f
       by-number true e = sym (eqb-true (formRefusal c f) 0 e)
       by-number false e = refl
 
@@ -30,7 +31,8 @@ module _ (c : Context) where
     unfolding lined lineRefusal
     lined-number = by-bytes (bytesGood line)
       where
-        by-bytes : (b : Bool) → refusalOf (cond b (linedForm c (formOf line)) (Lined.Refused 2)) ≡ cond (not b) 2 (formRefusalOr3 c (formOf line))
+        by-bytes : (b : Bool)
+            → refusalOf (cond b (linedForm c (formOf line)) (Lined.Refused 2)) ≡ cond (not b) 2 (formRefusalOr3 c (formOf line))
         by-bytes true = form-number (formOf line)
         by-bytes false = refl
 
@@ -39,7 +41,8 @@ module _ (c : Context) where
     unfolding lined linedForm lineRefusal formRefusalOr3
     lined-frame z f e = by-bytes (bytesGood line) refl z
       where
-        by-bytes : (b : Bool) → bytesGood line ≡ b → cond (not (bytesGood line)) 2 (formRefusalOr3 c (formOf line)) ≡ 0 → cond (bytesGood line) (linedForm c (formOf line)) (Lined.Refused 2) ≡ Lined.Is (frameOf f)
+        by-bytes : (b : Bool) → bytesGood line ≡ b → cond (not (bytesGood line)) 2 (formRefusalOr3 c (formOf line)) ≡ 0
+            → cond (bytesGood line) (linedForm c (formOf line)) (Lined.Refused 2) ≡ Lined.Is (frameOf f)
         by-bytes true g z = let n : formRefusal c f ≡ 0 = rw (g, e) at z in rw (g, e, eq-eqb _ _ n) refl
         by-bytes false g z = let n : _≡_ {A = ℕ} 2 0 = rw g at z in let y : _≡_ {A = ℕ} 0 1 = cc in absurd (omega arith)
 
@@ -62,14 +65,17 @@ module _ (c : Context) where
         number : lineRefusal c line ≡ 0
         number = sym lined-number ∙ ap refusalOf e
 
-        by-number : (f : Form) → formOf line ≡ some f → (b : Bool) → eqb (formRefusal c f) 0 ≡ b → cond b (Lined.Is (frameOf f)) (Lined.Refused (formRefusal c f)) ≡ Lined.Is frame → LinedIs frame
-        by-number f g true h e = record { form = f; of = g; fine = eqb-true (formRefusal c f) 0 h; whole = number; same = sym (ap frameIn e) }
+        by-number : (f : Form) → formOf line ≡ some f → (b : Bool) → eqb (formRefusal c f) 0 ≡ b
+            → cond b (Lined.Is (frameOf f)) (Lined.Refused (formRefusal c f)) ≡ Lined.Is frame → LinedIs frame
+        by-number f g true h e =
+            record { form = f; of = g; fine = eqb-true (formRefusal c f) 0 h; whole = number; same = sym (ap frameIn e) }
         by-number f g false h e = let z : _≡_ {A = ℕ} 0 1 = cc in absurd (omega arith)
 
         by-form : (o : Option Form) → formOf line ≡ o → linedForm c o ≡ Lined.Is frame → LinedIs frame
         by-form none g e = let z : _≡_ {A = ℕ} 0 1 = cc in absurd (omega arith)
         by-form (some f) g e = by-number f g (eqb (formRefusal c f) 0) refl e
 
-        by-bytes : (b : Bool) → bytesGood line ≡ b → cond (bytesGood line) (linedForm c (formOf line)) (Lined.Refused 2) ≡ Lined.Is frame → LinedIs frame
+        by-bytes : (b : Bool) → bytesGood line ≡ b → cond (bytesGood line) (linedForm c (formOf line)) (Lined.Refused 2) ≡ Lined.Is frame
+            → LinedIs frame
         by-bytes true g e = by-form (formOf line) refl (rw g at e)
         by-bytes false g e = let h : Lined.Refused 2 ≡ Lined.Is frame = rw g at e in let z : _≡_ {A = ℕ} 0 1 = cc in absurd (omega arith)

@@ -18,7 +18,8 @@ all-from s at = sym (append-nil (drop at s))
 end-of : (s : List ℕ) (at : ℕ) → at ≤ length s → at + length (drop at s) ≡ length s
 end-of s at h = omega (arith, length-drop at s)
 
-pub to-end : {A : Type 0} (s : List ℕ) (at : ℕ) → at ≤ length s → (form : Option A) (read : Option (A × ℕ)) → Tied form read at (at + length (drop at s)) → Tied form read at (length s)
+pub to-end : {A : Type 0} (s : List ℕ) (at : ℕ) → at ≤ length s → (form : Option A) (read : Option (A × ℕ))
+    → Tied form read at (at + length (drop at s)) → Tied form read at (length s)
 to-end s at h form read t = rw (end-of s at h) at t
 
 -- what was read, as the line's form

@@ -43,7 +43,8 @@ module _ (s : List ℕ) where
   no-time q (p ∷ []) e = rw e refl
   no-time q (p ∷ r ∷ ps) e = refl
 
-  with-time : (q : List ℕ) (ps : List (List ℕ)) (t : Time) → timeOf q ≡ some t → ruleOf (q ∷ ps) ≡ afterTime s partsOf (partsRead s) rule t ps
+  with-time : (q : List ℕ) (ps : List (List ℕ)) (t : Time) → timeOf q ≡ some t
+      → ruleOf (q ∷ ps) ≡ afterTime s partsOf (partsRead s) rule t ps
   unfolding ruleOf ruleBy afterTime
   with-time q [] t e = refl
   with-time q (p ∷ []) t e = rw e (by-parts (partsOf p))
@@ -89,7 +90,8 @@ module _ (c : Context) (t : Time) (ps : List Part) (p : otherStands (c .before) 
       place : inPlace (beforeAs (c .before)) (rule t ps) ≡ true
       place = rule-place (c .before) t ps ∙ p
 
-      by-start : (b : Bool) → startOccurs (rule t ps) ≡ b → partsTogether ps ≡ true → ruledLine (cond (not b) Ruled.NoStart (Ruled.Is (ruleFrame (givenOf ps) (minuteOf t)))) ≡ linedForm (contextAs c) (some (rule t ps))
+      by-start : (b : Bool) → startOccurs (rule t ps) ≡ b → partsTogether ps ≡ true
+          → ruledLine (cond (not b) Ruled.NoStart (Ruled.Is (ruleFrame (givenOf ps) (minuteOf t)))) ≡ linedForm (contextAs c) (some (rule t ps))
       by-start true s e = taken (contextAs c) (rule t ps) place r e refl s
       by-start false s e = no-start (contextAs c) (rule t ps) place r e refl s
 

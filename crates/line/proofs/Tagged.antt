@@ -22,6 +22,7 @@ tag-and-space [] h = absurd (omega arith)
 tag-and-space (a ∷ []) h = absurd (omega arith)
 tag-and-space (a ∷ b ∷ s) h = refl
 
-pub other-tag : (tag : ℕ) (s : List ℕ) → (tag ≡ 90 → ⊥) → (tag ≡ 84 → ⊥) → (tag ≡ 67 → ⊥) → (tag ≡ 82 → ⊥) → (tag ≡ 68 → ⊥) → (tag ≡ 88 → ⊥) → tagged tag s ≡ none
+pub other-tag : (tag : ℕ) (s : List ℕ) → (tag ≡ 90 → ⊥) → (tag ≡ 84 → ⊥) → (tag ≡ 67 → ⊥) → (tag ≡ 82 → ⊥) → (tag ≡ 68 → ⊥) → (tag ≡ 88 → ⊥)
+    → tagged tag s ≡ none
 unfolding tagged
 other-tag tag s z t c r d x = rw (ne-eqb tag 90 z, ne-eqb tag 84 t, ne-eqb tag 67 c, ne-eqb tag 82 r, ne-eqb tag 68 d, ne-eqb tag 88 x) refl

@@ -31,7 +31,8 @@ stop-end (space rest) = after-space rest
 pub stop-signs : {tail : List ℕ} → Stop tail → Stops tail
 stop-signs stop = end-stops (stop-end stop)
 
-pub time-here : (s : List ℕ) (at : ℕ) (p tail : List ℕ) → drop at s ≡ p ++ tail → Stop tail → Tied (timeOf p) (timeRead (timeAt s at)) at (at + length p)
+pub time-here : (s : List ℕ) (at : ℕ) (p tail : List ℕ) → drop at s ≡ p ++ tail → Stop tail
+    → Tied (timeOf p) (timeRead (timeAt s at)) at (at + length p)
 time-here s at p tail here stop = time-tied s at p tail (end-digits (stop-end stop)) (end-letter (stop-end stop)) here
 
 -- the value by its form and its reader, and the line that it makes with the time
@@ -77,5 +78,7 @@ module _ {A : Type 0} (s : List ℕ) (form : List ℕ → Option A) (read : ℕ 
       (then-tied 32 s timeOf (λ (at : ℕ). timeRead (timeAt s at)) Stop space (time-here s) [] over whole afterTime (λ (t : Time) (from : ℕ). madeRead (line t) (read from))
       no-time with-time after-none again refl 2 (drop 2 s) (all-from s 2))
     where
-      again : (t : Time) (from : ℕ) (rest : List ℕ) → drop from s ≡ rest ++ [] → Tied (afterTime t (pieces 32 rest)) (madeRead (line t) (read from)) from (from + length rest)
-      again t from rest here = tied-made (line t) _ _ from from _ (omega arith) (only-tied 32 s form read Stop space tie [] over from rest here)
+      again : (t : Time) (from : ℕ) (rest : List ℕ) → drop from s ≡ rest ++ []
+          → Tied (afterTime t (pieces 32 rest)) (madeRead (line t) (read from)) from (from + length rest)
+      again t from rest here =
+          tied-made (line t) _ _ from from _ (omega arith) (only-tied 32 s form read Stop space tie [] over from rest here)

@@ -32,7 +32,8 @@ module _ (s : List ℕ) where
   no-time q (p ∷ []) e = rw e refl
   no-time q (p ∷ r ∷ ps) e = refl
 
-  with-time : (q : List ℕ) (ps : List (List ℕ)) (t : Time) → timeOf q ≡ some t → changeOf (q ∷ ps) ≡ afterTime s shiftOf shiftHere change t ps
+  with-time : (q : List ℕ) (ps : List (List ℕ)) (t : Time) → timeOf q ≡ some t
+      → changeOf (q ∷ ps) ≡ afterTime s shiftOf shiftHere change t ps
   unfolding changeOf changeBy afterTime
   with-time q [] t e = refl
   with-time q (p ∷ []) t e = rw e (by-shift (shiftOf p))
@@ -45,11 +46,15 @@ module _ (s : List ℕ) where
   module _ (h : 2 ≤ length s) where
     -- Z
     pub zone-tied : Tied (formBy zone (shiftOf (drop 2 s))) (madeRead zone (shiftHere 2)) 2 (length s)
-    zone-tied = rw (form-by zone (shiftOf (drop 2 s))) (to-end s 2 h _ _ (tied-made zone _ _ 2 2 _ (omega arith) (shift-here 2 (drop 2 s) [] (all-from s 2) over)))
+    zone-tied =
+        rw (form-by zone (shiftOf (drop 2 s)))
+        (to-end s 2 h _ _ (tied-made zone _ _ 2 2 _ (omega arith) (shift-here 2 (drop 2 s) [] (all-from s 2) over)))
 
     -- D and X
     pub moment-tied : (form : Time → Form) → Tied (formBy form (timeOf (drop 2 s))) (madeRead form (timeRead (timeAt s 2))) 2 (length s)
-    moment-tied form = rw (form-by form (timeOf (drop 2 s))) (to-end s 2 h _ _ (tied-made form _ _ 2 2 _ (omega arith) (time-here s 2 (drop 2 s) [] (all-from s 2) over)))
+    moment-tied form =
+        rw (form-by form (timeOf (drop 2 s)))
+        (to-end s 2 h _ _ (tied-made form _ _ 2 2 _ (omega arith) (time-here s 2 (drop 2 s) [] (all-from s 2) over)))
 
     -- T
     pub change-tied : Tied (changeOf (pieces 32 (drop 2 s))) (timedRead s shiftOf shiftHere change 2) 2 (length s)

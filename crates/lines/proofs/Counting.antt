@@ -28,7 +28,8 @@ unfolding countedFrom linesOf
 counted-begun p [] = omega arith
 counted-begun p (c ∷ cs) = by-byte (eqb c 10) refl (counted-begun 0 cs) (counted-begun 1 cs)
   where
-    first-byte : (whole : List (List ℕ)) (tail : List ℕ) → begun 1 whole tail ≡ begun p (before c whole tail .whole) (before c whole tail .tail)
+    first-byte : (whole : List (List ℕ)) (tail : List ℕ)
+        → begun 1 whole tail ≡ begun p (before c whole tail .whole) (before c whole tail .tail)
     first-byte [] tail = rw (ne-eqb (suc (length tail)) 0 (λ (z : suc (length tail) ≡ 0). omega (arith, z))) (either (eqb (length tail) 0))
       where
         either : (b : Bool) → _≡_ {A = ℕ} (0 + cond b 1 1) (0 + 1)
@@ -36,7 +37,9 @@ counted-begun p (c ∷ cs) = by-byte (eqb c 10) refl (counted-begun 0 cs) (count
         either false = refl
     first-byte (line ∷ more) tail = rw (ne-eqb (suc (length more)) 0 (λ (z : suc (length more) ≡ 0). omega (arith, z))) refl
 
-    by-byte : (b : Bool) → eqb c 10 ≡ b → countedFrom 0 cs ≡ begun 0 (linesOf cs .whole) (linesOf cs .tail) → countedFrom 1 cs ≡ begun 1 (linesOf cs .whole) (linesOf cs .tail) → countedFrom p (c ∷ cs) ≡ begun p (linesOf (c ∷ cs) .whole) (linesOf (c ∷ cs) .tail)
+    by-byte : (b : Bool) → eqb c 10 ≡ b → countedFrom 0 cs ≡ begun 0 (linesOf cs .whole) (linesOf cs .tail)
+        → countedFrom 1 cs ≡ begun 1 (linesOf cs .whole) (linesOf cs .tail)
+        → countedFrom p (c ∷ cs) ≡ begun p (linesOf (c ∷ cs) .whole) (linesOf (c ∷ cs) .tail)
     by-byte true e none one =
         rw (countedFrom, linesOf, e)
         (rw (ne-eqb (suc (length (linesOf cs .whole))) 0 (λ (z : suc (length (linesOf cs .whole)) ≡ 0). omega (arith, z)))
@@ -45,7 +48,9 @@ counted-begun p (c ∷ cs) = by-byte (eqb c 10) refl (counted-begun 0 cs) (count
 
 pub counted-all : (t : List ℕ) → countedFrom 0 t ≡ linesIn t
 unfolding linesIn
-counted-all t = counted-begun 0 t ∙ ap (λ (k : ℕ). length (linesOf t .whole) + k) (no-line-begun (eqb (length (linesOf t .tail)) 0) (eqb (length (linesOf t .whole)) 0))
+counted-all t =
+    counted-begun 0 t
+    ∙ ap (λ (k : ℕ). length (linesOf t .whole) + k) (no-line-begun (eqb (length (linesOf t .tail)) 0) (eqb (length (linesOf t .whole)) 0))
 
 pub begun-one : (c : ℕ) → begunBy c ≤ 1
 begun-one c = by-byte (eqb c 10)
@@ -58,7 +63,8 @@ begun-one c = by-byte (eqb c 10)
 pub counted-byte : (text : List ℕ) (i p : ℕ) → i < length text
     → countedFrom p (drop i text) ≡ 1 - begunBy (getD text i 0) + countedFrom (begunBy (getD text i 0)) (drop (i + 1) text)
 unfolding countedFrom
-counted-byte text i p h = let s : i + 1 ≡ suc i = omega arith in rw (drop-cons text i 0 h, countedFrom, s) (by-byte (eqb (getD text i 0) 10) (drop (suc i) text))
+counted-byte text i p h =
+    let s : i + 1 ≡ suc i = omega arith in rw (drop-cons text i 0 h, countedFrom, s) (by-byte (eqb (getD text i 0) 10) (drop (suc i) text))
   where
     by-byte : (b : Bool) (t : List ℕ) → cond b (suc (countedFrom 0 t)) (countedFrom 1 t) ≡ 1 - cond b 0 1 + countedFrom (cond b 0 1) t
     by-byte true t = omega arith

@@ -26,7 +26,8 @@ module _ (k low offset : ℕ) (t : Transition) where
   unfolding place
   change-broken e = rw e (simp and-false)
 
-  pub change-good : k ≤ 31 → underLimits low offset t ≡ true → some (zoned (k + 1) (t .at + 2880) (t .offset)) ≡ place (zoned k low offset) (Frame.Change t)
+  pub change-good : k ≤ 31 → underLimits low offset t ≡ true
+      → some (zoned (k + 1) (t .at + 2880) (t .offset)) ≡ place (zoned k low offset) (Frame.Change t)
   unfolding place
   change-good a u =
       let e : k + 1 ≡ suc k = omega arith in
@@ -76,7 +77,8 @@ module _ (n : ℕ) (before : Before) where
         by-line none e = rw (allowed, e) refl
         by-line (some f) e = rw (allowed, e) (by-place (place before f) refl)
           where
-            by-place : (o : Option Before) → place before f ≡ o → elim (place before f) [ none ↦ none | some after ↦ cond (frameGood f && numberGood n f) (some (f, after)) none ] ≡ atPlace f (place before f)
+            by-place : (o : Option Before) → place before f ≡ o
+                → elim (place before f) [ none ↦ none | some after ↦ cond (frameGood f && numberGood n f) (some (f, after)) none ] ≡ atPlace f (place before f)
             by-place none e = rw e refl
             by-place (some after) e = rw e refl
 
@@ -101,6 +103,7 @@ module _ (n : ℕ) (before : Before) where
       unfolding atPlace
       allowed-not-placed p = sym (placed none (sym p))
 
-      pub allowed-placed : (after : Before) → some after ≡ place before f → frameGood f ≡ true → numberGood n f ≡ true → some (f, after) ≡ allowed n before line
+      pub allowed-placed : (after : Before) → some after ≡ place before f → frameGood f ≡ true → numberGood n f ≡ true
+          → some (f, after) ≡ allowed n before line
       unfolding atPlace
       allowed-placed after p g m = sym (placed (some after) (sym p) ∙ rw (g, m) refl)

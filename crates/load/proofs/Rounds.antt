@@ -56,12 +56,15 @@ unfolding linesOf
 rest-some [] h = absurd (omega arith)
 rest-some (c ∷ cs) h = by-byte (eqb c 10) refl
   where
-    some-byte : (whole : List (List ℕ)) (tail : List ℕ) → (eqb (length (before c whole tail .whole)) 0 && eqb (length (before c whole tail .tail)) 0) ≡ false
+    some-byte : (whole : List (List ℕ)) (tail : List ℕ)
+        → (eqb (length (before c whole tail .whole)) 0 && eqb (length (before c whole tail .tail)) 0) ≡ false
     some-byte [] tail = ne-eqb (suc (length tail)) 0 (λ (z : suc (length tail) ≡ 0). omega (arith, z))
     some-byte (line ∷ more) tail = rw (ne-eqb (suc (length more)) 0 (λ (z : suc (length more) ≡ 0). omega (arith, z))) refl
 
     by-byte : (b : Bool) → eqb c 10 ≡ b → (eqb (length (linesOf (c ∷ cs) .whole)) 0 && eqb (length (linesOf (c ∷ cs) .tail)) 0) ≡ false
-    by-byte true e = rw (linesOf, e) (rw (ne-eqb (suc (length (linesOf cs .whole))) 0 (λ (z : suc (length (linesOf cs .whole)) ≡ 0). omega (arith, z))) refl)
+    by-byte true e =
+        rw (linesOf, e)
+        (rw (ne-eqb (suc (length (linesOf cs .whole))) 0 (λ (z : suc (length (linesOf cs .whole)) ≡ 0). omega (arith, z))) refl)
     by-byte false e = rw (linesOf, e) (some-byte (linesOf cs .whole) (linesOf cs .tail))
 
 more-frames : (n : ℕ) (f : Frame) (l : Load) → loadedFrom (n + 1) l ≡ loadedFrom n (onRest f l)
@@ -70,7 +73,8 @@ more-frames n f (refused k) = refl
 
 module _ (text : List ℕ) (rows₀ rows : List (List ℕ)) (n at : ℕ) (b : Before) (left : Left text rows₀ rows n at b) where
   -- no line is left
-  pub left-none : length text ≤ lineEnd text at → (Loaded.Refused (n + 1) ≡ loadedAs (load text)) × (rows ≡ sets rows₀ 0 (map rowOf (readFrames text)))
+  pub left-none : length text ≤ lineEnd text at
+      → (Loaded.Refused (n + 1) ≡ loadedAs (load text)) × (rows ≡ sets rows₀ 0 (map rowOf (readFrames text)))
   unfolding loadFrom readFrom
   left-none h =
       let e = lines-none text at (left .within) h in (
@@ -84,7 +88,9 @@ module _ (text : List ℕ) (rows₀ rows : List (List ℕ)) (n at : ℕ) (b : Be
         → loadedFrom n (onAllowed n (linesOf (drop (lineEnd text at + 1) text) .whole) (linesOf (drop (lineEnd text at + 1) text) .tail) o) ≡ loadedAs (load text)
     unfolding loadFrom
     answered o e =
-        ap (λ (x : Option (Frame × Before)). loadedFrom n (onAllowed n (linesOf (drop (lineEnd text at + 1) text) .whole) (linesOf (drop (lineEnd text at + 1) text) .tail) x)) e
+        ap
+        (λ (x : Option (Frame × Before)). loadedFrom n (onAllowed n (linesOf (drop (lineEnd text at + 1) text) .whole) (linesOf (drop (lineEnd text at + 1) text) .tail) x))
+        e
         ∙ ap (λ (ls : Lines). loadedFrom n (loadFrom n b (ls .whole) (ls .tail))) (sym (lines-at text at (left .within) h))
         ∙ left .answer
 
@@ -96,16 +102,20 @@ module _ (text : List ℕ) (rows₀ rows : List (List ℕ)) (n at : ℕ) (b : Be
         ∙ ap (λ (ls : Lines). sets rows n (map rowOf (readFrom n b (ls .whole)))) (sym (lines-at text at (left .within) h))
         ∙ left .stored
 
-    pub left-not : none ≡ allowed n b (take (lineEnd text at - at) (drop at text)) → (Loaded.Refused (n + 1) ≡ loadedAs (load text)) × (rows ≡ sets rows₀ 0 (map rowOf (readFrames text)))
+    pub left-not : none ≡ allowed n b (take (lineEnd text at - at) (drop at text))
+        → (Loaded.Refused (n + 1) ≡ loadedAs (load text)) × (rows ≡ sets rows₀ 0 (map rowOf (readFrames text)))
     unfolding onRead
     left-not e = (answered none e, read none e)
 
     module _ (f : Frame) (after : Before) (e : some (f, after) ≡ allowed n b (take (lineEnd text at - at) (drop at text))) where
-      pub left-end : isEnd f ≡ true → (endedAs n (length text - (lineEnd text at + 1)) ≡ loadedAs (load text)) × (rows ≡ sets rows₀ 0 (map rowOf (readFrames text)))
+      pub left-end : isEnd f ≡ true
+          → (endedAs n (length text - (lineEnd text at + 1)) ≡ loadedAs (load text)) × (rows ≡ sets rows₀ 0 (map rowOf (readFrames text)))
       unfolding onRead onReadEnd
       left-end t = (
         by-rest (length text - (lineEnd text at + 1)) refl
-            ∙ ap (λ (x : Bool). loadedFrom n (onEnd n (f, after) (linesOf (drop (lineEnd text at + 1) text) .whole) (linesOf (drop (lineEnd text at + 1) text) .tail) x)) (sym t)
+            ∙ ap
+            (λ (x : Bool). loadedFrom n (onEnd n (f, after) (linesOf (drop (lineEnd text at + 1) text) .whole) (linesOf (drop (lineEnd text at + 1) text) .tail) x))
+            (sym t)
             ∙ answered (some (f, after)) e,
         ap (λ (x : Bool). sets rows n (map rowOf (onReadEnd n (f, after) (linesOf (drop (lineEnd text at + 1) text) .whole) x))) (sym t) ∙ read (some (f, after)) e,
       )
@@ -115,7 +125,8 @@ module _ (text : List ℕ) (rows₀ rows : List (List ℕ)) (n at : ℕ) (b : Be
           by-rest zero k =
               let z : n ≡ n + 0 = omega arith in
               rw (rest-none (drop (lineEnd text at + 1) text) (length-drop (lineEnd text at + 1) text ∙ k)) (ap Loaded.Taken z)
-          by-rest (suc j) k = rw (rest-some (drop (lineEnd text at + 1) text) (omega (arith, length-drop (lineEnd text at + 1) text, k))) refl
+          by-rest (suc j) k =
+              rw (rest-some (drop (lineEnd text at + 1) text) (omega (arith, length-drop (lineEnd text at + 1) text, k))) refl
 
       pub left-room : isEnd f ≡ false → n < 64
       left-room t = among n f t (line-allowed n b (take (lineEnd text at - at) (drop at text)) (f, after) (sym e) .number)
@@ -127,10 +138,18 @@ module _ (text : List ℕ) (rows₀ rows : List (List ℕ)) (n at : ℕ) (b : Be
           record {
             within = omega arith;
             places = omega (arith, left-room t);
-            answer = more-frames n f (loadFrom (n + 1) after (linesOf (drop (lineEnd text at + 1) text) .whole) (linesOf (drop (lineEnd text at + 1) text) .tail))
-                ∙ ap (λ (x : Bool). loadedFrom n (onEnd n (f, after) (linesOf (drop (lineEnd text at + 1) text) .whole) (linesOf (drop (lineEnd text at + 1) text) .tail) x)) (sym t)
+            answer =
+                more-frames n f
+                (loadFrom (n + 1) after (linesOf (drop (lineEnd text at + 1) text) .whole) (linesOf (drop (lineEnd text at + 1) text) .tail))
+                ∙ ap
+                (λ (x : Bool). loadedFrom n (onEnd n (f, after) (linesOf (drop (lineEnd text at + 1) text) .whole) (linesOf (drop (lineEnd text at + 1) text) .tail) x))
+                (sym t)
                 ∙ answered (some (f, after)) e;
-            stored = ap (λ (k : ℕ). sets (set rows n (rowOf f)) k (map rowOf (readFrom (n + 1) after (linesOf (drop (lineEnd text at + 1) text) .whole)))) s
-                ∙ ap (λ (x : Bool). sets rows n (map rowOf (onReadEnd n (f, after) (linesOf (drop (lineEnd text at + 1) text) .whole) x))) (sym t)
+            stored =
+                ap
+                (λ (k : ℕ). sets (set rows n (rowOf f)) k (map rowOf (readFrom (n + 1) after (linesOf (drop (lineEnd text at + 1) text) .whole))))
+                s
+                ∙ ap (λ (x : Bool). sets rows n (map rowOf (onReadEnd n (f, after) (linesOf (drop (lineEnd text at + 1) text) .whole) x)))
+                (sym t)
                 ∙ read (some (f, after)) e;
           }

@@ -51,7 +51,8 @@ goes-on : (m i : ℕ) (rows : List (List ℕ)) → getD (getD rows i []) 0 0 ≡
 unfolding changesIn
 goes-on m i [] h = by-none i h
   where
-    by-none : (i : ℕ) → getD (getD {A = List ℕ} [] i []) 0 0 ≡ 2 → changesIn (take (suc m) (drop i [])) ≡ changeIn (getD {A = List ℕ} [] i []) ∷ changesIn (take m (drop (suc i) []))
+    by-none : (i : ℕ) → getD (getD {A = List ℕ} [] i []) 0 0 ≡ 2
+        → changesIn (take (suc m) (drop i [])) ≡ changeIn (getD {A = List ℕ} [] i []) ∷ changesIn (take m (drop (suc i) []))
     by-none zero e = absurd (omega (arith, e))
     by-none (suc i) e = absurd (omega (arith, e))
 goes-on m zero (row ∷ rows) h = rw (changesIn, eq-eqb (getD row 0 0) 2 h) refl
@@ -89,7 +90,8 @@ module _ (rows : List (List ℕ)) (count n : ℕ) (zone : Zone) (i : ℕ) (r : R
       }
 
 -- ---- a zone with its transitions, and the first so many of them
-pub held-changes : (offset : ℕ) (ts : List Transition) → length ts ≤ 32 → offsetsOf (withChanges (bare offset) ts) ≡ record { first = offset; changes = ts }
+pub held-changes : (offset : ℕ) (ts : List Transition) → length ts ≤ 32
+    → offsetsOf (withChanges (bare offset) ts) ≡ record { first = offset; changes = ts }
 unfolding offsetsOf
 held-changes offset ts h =
     let e : 0 + length ts ≡ length ts = omega arith in
@@ -104,6 +106,7 @@ changes-taken zero rows = refl
 changes-taken (suc m) [] = refl
 changes-taken (suc m) (row ∷ rows) = by-kind (eqb (getD row 0 0) 2) refl (changes-taken m rows)
   where
-    by-kind : (b : Bool) → eqb (getD row 0 0) 2 ≡ b → changesIn (take m rows) ≡ take m (changesIn rows) → changesIn (row ∷ take m rows) ≡ take (suc m) (changesIn (row ∷ rows))
+    by-kind : (b : Bool) → eqb (getD row 0 0) 2 ≡ b → changesIn (take m rows) ≡ take m (changesIn rows)
+        → changesIn (row ∷ take m rows) ≡ take (suc m) (changesIn (row ∷ rows))
     by-kind true e r = rw (changesIn, e) (ap (λ (ts : List Transition). changeIn row ∷ ts) r)
     by-kind false e r = rw (changesIn, e) refl

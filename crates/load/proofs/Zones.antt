@@ -78,7 +78,8 @@ pub few-frames : (n : ℕ) (b : Before) (fs : List Frame) → n ≤ 64 → allow
 few-frames n b [] h e = omega arith
 few-frames n b (f ∷ fs) h e =
     let p = first-of n b f fs e in
-    omega (arith, among n f (p .more) (p .number), few-frames (n + 1) (p .after) fs (omega (arith, among n f (p .more) (p .number))) (p .rest))
+    omega
+    (arith, among n f (p .more) (p .number), few-frames (n + 1) (p .after) fs (omega (arith, among n f (p .more) (p .number))) (p .rest))
 
 -- among other lines no transition stands
 pub no-changes : (n : ℕ) (fs : List Frame) → allowedFrom n lines fs ≡ true → changesOf fs ≡ []
@@ -86,10 +87,15 @@ unfolding changesOf place
 no-changes n [] e = refl
 no-changes n (Frame.Offset o ∷ fs) e = let p = first-of n lines (Frame.Offset o) fs e in no-place (p .after) (p .placed)
 no-changes n (Frame.Change t ∷ fs) e = let p = first-of n lines (Frame.Change t) fs e in no-place (p .after) (p .placed)
-no-changes n (Frame.Cron f ∷ fs) e = let p = first-of n lines (Frame.Cron f) fs e in no-changes (n + 1) fs (rw (the-same (p .after) lines (sym (p .placed))) at (p .rest))
-no-changes n (Frame.Rule f ∷ fs) e = let p = first-of n lines (Frame.Rule f) fs e in no-changes (n + 1) fs (rw (the-same (p .after) lines (sym (p .placed))) at (p .rest))
-no-changes n (Frame.Extra m ∷ fs) e = let p = first-of n lines (Frame.Extra m) fs e in no-changes (n + 1) fs (rw (the-same (p .after) lines (sym (p .placed))) at (p .rest))
-no-changes n (Frame.Excepted m ∷ fs) e = let p = first-of n lines (Frame.Excepted m) fs e in no-changes (n + 1) fs (rw (the-same (p .after) lines (sym (p .placed))) at (p .rest))
+no-changes n (Frame.Cron f ∷ fs) e =
+    let p = first-of n lines (Frame.Cron f) fs e in no-changes (n + 1) fs (rw (the-same (p .after) lines (sym (p .placed))) at (p .rest))
+no-changes n (Frame.Rule f ∷ fs) e =
+    let p = first-of n lines (Frame.Rule f) fs e in no-changes (n + 1) fs (rw (the-same (p .after) lines (sym (p .placed))) at (p .rest))
+no-changes n (Frame.Extra m ∷ fs) e =
+    let p = first-of n lines (Frame.Extra m) fs e in no-changes (n + 1) fs (rw (the-same (p .after) lines (sym (p .placed))) at (p .rest))
+no-changes n (Frame.Excepted m ∷ fs) e =
+    let p = first-of n lines (Frame.Excepted m) fs e in
+    no-changes (n + 1) fs (rw (the-same (p .after) lines (sym (p .placed))) at (p .rest))
 no-changes n (Frame.End k ∷ fs) e = let p = first-of n lines (Frame.End k) fs e in absurd (false≢true (sym (p .more)))
 
 -- after the first frame: the transitions in the rows are those of the frames, at most 32 and under the limits
@@ -103,7 +109,8 @@ unfolding transitionsGood
 over k low offset fs h a b = record { same = a ∙ sym b; few = rw b (omega arith); good = rw b refl }
 
 -- one transition more
-one-more : (k low offset : ℕ) (t : Transition) (fs : List Frame) → ltb k 32 ≡ true → underLimits low offset t ≡ true → frameGood (Frame.Change t) ≡ true
+one-more : (k low offset : ℕ) (t : Transition) (fs : List Frame) → ltb k 32 ≡ true → underLimits low offset t ≡ true
+    → frameGood (Frame.Change t) ≡ true
     → Changes (suc k) (t .at + 2880) (t .offset) fs → Changes k low offset (Frame.Change t ∷ fs)
 unfolding changesIn changesOf rowOf transitionsGood frameGood
 one-more k low offset t fs l u g r =
@@ -238,7 +245,8 @@ module _ (n : ℕ) (ls : List (List ℕ)) (tail : List ℕ) (fs : List Frame) wh
       by-end true e = end-read (eqb (length ls) 0 && eqb (length tail) 0) e
       by-end false e = more-read r (again (r .1)) (loadFrom (n + 1) (r .1) ls tail) refl e
 
-read-taken : (n : ℕ) (b : Before) (ls : List (List ℕ)) (tail : List ℕ) (fs : List Frame) → loadFrom n b ls tail ≡ taken fs → readFrom n b ls ≡ fs
+read-taken : (n : ℕ) (b : Before) (ls : List (List ℕ)) (tail : List ℕ) (fs : List Frame) → loadFrom n b ls tail ≡ taken fs
+    → readFrom n b ls ≡ fs
 unfolding loadFrom readFrom
 read-taken n b [] tail fs e = not-refused (n + 1) fs e
 read-taken n b (l ∷ ls) tail fs e = line-read n ls tail fs (λ c gs. read-taken (n + 1) c ls tail gs) (allowed n b l) e

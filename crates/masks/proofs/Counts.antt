@@ -12,7 +12,8 @@ use Rattle.masks.proofs.Bits.{bit-of-quotient}
 use Rattle.masks.proofs.MaskFroms.{digit-at-most, digit-number}
 
 -- tests that agree on the numbers count alike
-pub count-same : (test other : ℕ → Bool) (k i : ℕ) → ((j : ℕ) → i ≤ j → j < i + k → test j ≡ other j) → countFrom test k i ≡ countFrom other k i
+pub count-same : (test other : ℕ → Bool) (k i : ℕ) → ((j : ℕ) → i ≤ j → j < i + k → test j ≡ other j)
+    → countFrom test k i ≡ countFrom other k i
 count-same test other zero i e = refl
 count-same test other (suc k) i e =
     ap₂ (λ (b : Bool) (x : ℕ). cond b 1 0 + x) (e i (omega arith) (omega arith))
@@ -84,7 +85,8 @@ bits-in-two m n h =
     let e : min n 64 ≡ n = omega arith in
     let f : 64 ≡ n + (64 - n) = omega arith in
     let z : 0 + n ≡ n = omega arith in
-    rw e (ap (λ (x : ℕ). countFrom (bit m) x 0) f ∙ count-parts (bit m) n (64 - n) 0 ∙ ap (λ (x : ℕ). countFrom (bit m) n 0 + countFrom (bit m) (64 - n) x) z)
+    rw e
+    (ap (λ (x : ℕ). countFrom (bit m) x 0) f ∙ count-parts (bit m) n (64 - n) 0 ∙ ap (λ (x : ℕ). countFrom (bit m) n 0 + countFrom (bit m) (64 - n) x) z)
 
 -- none below 1 where bit 0 is not set
 pub bits-below-one : (m : ℕ) → bit m 0 ≡ false → bitsBelow m 1 ≡ 0

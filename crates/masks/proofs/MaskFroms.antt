@@ -14,7 +14,8 @@ use Rattle.masks.specs.Masks.{bit, maskFrom}
 use Rattle.masks.proofs.Bits.{bit-of-quotient, bit-of-multiple, bit-above}
 
 -- tests that agree on the numbers have the same mask
-pub mask-from-same : (test other : ℕ → Bool) (k n : ℕ) → ((i : ℕ) → n ≤ i → i < n + k → test i ≡ other i) → maskFrom test k n ≡ maskFrom other k n
+pub mask-from-same : (test other : ℕ → Bool) (k n : ℕ) → ((i : ℕ) → n ≤ i → i < n + k → test i ≡ other i)
+    → maskFrom test k n ≡ maskFrom other k n
 unfolding maskFrom
 mask-from-same test other zero n e = refl
 mask-from-same test other (suc k) n e =

@@ -137,7 +137,8 @@ pub next-bit-shifted : (m n : ℕ) → m < 2 ^ 64 → n < 64 → trailingZeros 6
 next-bit-shifted m n h l =
     let x = m / 2 ^ n * 2 ^ n in
     let e : x % 2 ^ 64 ≡ x = mod-eq-of-lt (lt-of-le-of-lt (div-mul-le-self m (2 ^ n)) h) in
-    ap (trailingZeros 64) e ∙ next-bit-is m n (trailingZeros 64 x) (omega arith) (cleared-least m n (trailingZeros 64 x) (omega arith) (trailing-least 64 x))
+    ap (trailingZeros 64) e
+    ∙ next-bit-is m n (trailingZeros 64 x) (omega arith) (cleared-least m n (trailingZeros 64 x) (omega arith) (trailing-least 64 x))
 
 cut-last : (m n r : ℕ) → n ≤ 64 → Last (bit (m % 2 ^ n)) 0 64 r → Last (bit m) 0 n r
 cut-last m n r h l =

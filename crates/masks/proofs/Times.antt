@@ -14,7 +14,8 @@ use Rattle.masks.specs.Times.{timeHeld, nextTime, lastTime}
 use Rattle.masks.proofs.Nexts.{next-bit-least, next-bit-past, previous-bit-last}
 
 -- a held minute, by its hour and its minute
-pub time-held : (hours minutes t h m : ℕ) → t ≡ 60 * h + m → m < 60 → bit hours h ≡ true → bit minutes m ≡ true → timeHeld hours minutes t ≡ true
+pub time-held : (hours minutes t h m : ℕ) → t ≡ 60 * h + m → m < 60 → bit hours h ≡ true → bit minutes m ≡ true
+    → timeHeld hours minutes t ≡ true
 unfolding timeHeld
 time-held hours minutes t h m e l a b =
     let q : t / 60 ≡ h = omega arith in
@@ -88,7 +89,8 @@ minutes-none hours minutes hour h =
     (λ j a c. minute-not-held hours minutes j (j % 60) refl (b .fails (j % 60) (omega arith) (omega arith))))))
     (λ (g : hour < 24 → ⊥). next-time-past hours minutes (60 * hour) (omega arith))
 
-pub next-hour-time : (hours minutes hour : ℕ) → nextBit hours hour < 24 → nextBit minutes 0 < 60 → 60 * nextBit hours hour + nextBit minutes 0 ≡ nextTime hours minutes (60 * hour)
+pub next-hour-time : (hours minutes hour : ℕ) → nextBit hours hour < 24 → nextBit minutes 0 < 60
+    → 60 * nextBit hours hour + nextBit minutes 0 ≡ nextTime hours minutes (60 * hour)
 next-hour-time hours minutes hour h m =
     dite (decLt hour 24)
     (λ (l : hour < 24).
@@ -114,7 +116,8 @@ next-hour-time hours minutes hour h m =
     (λ (f : hour < 64 → ⊥). omega (arith, next-bit-past hours hour (omega arith)))))
 
 -- the rest of t's own hour
-pub this-hour-time : (hours minutes t : ℕ) → t < 1440 → bit hours (t / 60) ≡ true → nextBit minutes (t % 60) < 60 → t / 60 * 60 + nextBit minutes (t % 60) ≡ nextTime hours minutes t
+pub this-hour-time : (hours minutes t : ℕ) → t < 1440 → bit hours (t / 60) ≡ true → nextBit minutes (t % 60) < 60
+    → t / 60 * 60 + nextBit minutes (t % 60) ≡ nextTime hours minutes t
 this-hour-time hours minutes t h a m =
     let f = next-bit-least minutes (t % 60) (omega arith) in
     next-time-is hours minutes t (t / 60 * 60 + nextBit minutes (t % 60)) (omega arith)
@@ -128,17 +131,20 @@ this-hour-time hours minutes t h a m =
     })
 
 -- nothing is left in t's hour
-later : (hours minutes t : ℕ) → t < 1440 → ((j : ℕ) → t ≤ j → j < 60 * (t / 60 + 1) → timeHeld hours minutes j ≡ false) → nextTime hours minutes (60 * (t / 60 + 1)) ≡ nextTime hours minutes t
+later : (hours minutes t : ℕ) → t < 1440 → ((j : ℕ) → t ≤ j → j < 60 * (t / 60 + 1) → timeHeld hours minutes j ≡ false)
+    → nextTime hours minutes (60 * (t / 60 + 1)) ≡ nextTime hours minutes t
 later hours minutes t h none =
     let next = 60 * (t / 60 + 1) in
     next-time-is hours minutes t (nextTime hours minutes next) (omega arith)
     (least-after (timeHeld hours minutes) t next 1440 (nextTime hours minutes next) (omega arith) none
     (next-time-least hours minutes next (omega arith)))
 
-pub later-hour : (hours minutes t : ℕ) → t < 1440 → bit hours (t / 60) ≡ false → nextTime hours minutes (60 * (t / 60 + 1)) ≡ nextTime hours minutes t
+pub later-hour : (hours minutes t : ℕ) → t < 1440 → bit hours (t / 60) ≡ false
+    → nextTime hours minutes (60 * (t / 60 + 1)) ≡ nextTime hours minutes t
 later-hour hours minutes t h a = later hours minutes t h (λ j b c. hour-not-held hours minutes j (t / 60) (omega arith) a)
 
-pub later-minute : (hours minutes t : ℕ) → t < 1440 → 60 ≤ nextBit minutes (t % 60) → nextTime hours minutes (60 * (t / 60 + 1)) ≡ nextTime hours minutes t
+pub later-minute : (hours minutes t : ℕ) → t < 1440 → 60 ≤ nextBit minutes (t % 60)
+    → nextTime hours minutes (60 * (t / 60 + 1)) ≡ nextTime hours minutes t
 later-minute hours minutes t h m =
     let f = next-bit-least minutes (t % 60) (omega arith) in
     later hours minutes t h
@@ -159,7 +165,8 @@ no-minute-before hours minutes hour h z =
     (last-none (timeHeld hours minutes) 0 (60 * hour) (omega arith)
     (λ j a c. minute-not-held hours minutes j (j % 60) refl (b .fails (j % 60) (omega arith) (omega arith))))
 
-pub last-hour-time : (hours minutes hour : ℕ) → hour ≤ 24 → 0 < previousBit hours hour → 0 < previousBit minutes 60 → 60 * (previousBit hours hour - 1) + previousBit minutes 60 ≡ lastTime hours minutes (60 * hour)
+pub last-hour-time : (hours minutes hour : ℕ) → hour ≤ 24 → 0 < previousBit hours hour → 0 < previousBit minutes 60
+    → 60 * (previousBit hours hour - 1) + previousBit minutes 60 ≡ lastTime hours minutes (60 * hour)
 last-hour-time hours minutes hour h p m =
     let b = previous-bit-last hours hour (omega arith) in
     let f = previous-bit-last minutes 60 (omega arith) in
@@ -180,7 +187,8 @@ last-hour-time hours minutes hour h p m =
     })
 
 -- the part of t's own hour before t
-pub this-hour-last : (hours minutes t : ℕ) → t < 1440 → bit hours (t / 60) ≡ true → 0 < previousBit minutes (t % 60) → t / 60 * 60 + previousBit minutes (t % 60) ≡ lastTime hours minutes t
+pub this-hour-last : (hours minutes t : ℕ) → t < 1440 → bit hours (t / 60) ≡ true → 0 < previousBit minutes (t % 60)
+    → t / 60 * 60 + previousBit minutes (t % 60) ≡ lastTime hours minutes t
 this-hour-last hours minutes t h a m =
     let f = previous-bit-last minutes (t % 60) (omega arith) in
     let r = t / 60 * 60 + previousBit minutes (t % 60) in
@@ -193,17 +201,20 @@ this-hour-last hours minutes t h a m =
       fails = λ j b c. minute-not-held hours minutes j (j % 60) refl (f .fails (j % 60) (omega (arith, f .to)) (omega arith));
     })
 
-earlier : (hours minutes t : ℕ) → t < 1440 → ((j : ℕ) → 60 * (t / 60) ≤ j → j < t → timeHeld hours minutes j ≡ false) → lastTime hours minutes (60 * (t / 60)) ≡ lastTime hours minutes t
+earlier : (hours minutes t : ℕ) → t < 1440 → ((j : ℕ) → 60 * (t / 60) ≤ j → j < t → timeHeld hours minutes j ≡ false)
+    → lastTime hours minutes (60 * (t / 60)) ≡ lastTime hours minutes t
 earlier hours minutes t h none =
     let start = 60 * (t / 60) in
     last-time-is hours minutes t (lastTime hours minutes start) (omega arith)
     (last-before (timeHeld hours minutes) 0 start t (lastTime hours minutes start) (omega arith) none
     (last-time-last hours minutes start (omega arith)))
 
-pub earlier-hour : (hours minutes t : ℕ) → t < 1440 → bit hours (t / 60) ≡ false → lastTime hours minutes (60 * (t / 60)) ≡ lastTime hours minutes t
+pub earlier-hour : (hours minutes t : ℕ) → t < 1440 → bit hours (t / 60) ≡ false
+    → lastTime hours minutes (60 * (t / 60)) ≡ lastTime hours minutes t
 earlier-hour hours minutes t h a = earlier hours minutes t h (λ j b c. hour-not-held hours minutes j (t / 60) (omega arith) a)
 
-pub earlier-minute : (hours minutes t : ℕ) → t < 1440 → previousBit minutes (t % 60) ≡ 0 → lastTime hours minutes (60 * (t / 60)) ≡ lastTime hours minutes t
+pub earlier-minute : (hours minutes t : ℕ) → t < 1440 → previousBit minutes (t % 60) ≡ 0
+    → lastTime hours minutes (60 * (t / 60)) ≡ lastTime hours minutes t
 earlier-minute hours minutes t h m =
     let f = previous-bit-last minutes (t % 60) (omega arith) in
     earlier hours minutes t h

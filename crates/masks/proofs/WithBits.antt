@@ -88,7 +88,8 @@ with-bit-below m n k h l =
     (λ (g : n < 64 → ⊥). rw (with-bit-past m n (omega arith)) h)
 
 -- a mask built upwards, bit after bit
-pub mask-from-with-last : (test : ℕ → Bool) (k n : ℕ) → n + k < 64 → maskFrom test (suc k) n ≡ cond (test (n + k)) (withBit (maskFrom test k n) (n + k)) (maskFrom test k n)
+pub mask-from-with-last : (test : ℕ → Bool) (k n : ℕ) → n + k < 64
+    → maskFrom test (suc k) n ≡ cond (test (n + k)) (withBit (maskFrom test k n) (n + k)) (maskFrom test k n)
 unfolding withBit
 mask-from-with-last test k n h =
     mask-from-last test k n

@@ -6,7 +6,8 @@ use native.Mathlib.Omega.{arith}
 use Rattle.next.specs.Nearest.{Nearest, Before, After, Earliest, Latest, Earlier}
 
 -- none at all
-pub nearest-start : (nearer : ℕ → ℕ → Type 0) (instants : ℕ → Type 0) (bound : ℕ) → ((j : ℕ) → instants j → nearer j bound → ⊥) → Nearest nearer instants bound bound
+pub nearest-start : (nearer : ℕ → ℕ → Type 0) (instants : ℕ → Type 0) (bound : ℕ) → ((j : ℕ) → instants j → nearer j bound → ⊥)
+    → Nearest nearer instants bound bound
 nearest-start nearer instants bound h = record { none = h; found = inl refl }
 
 -- the same instants
@@ -29,7 +30,9 @@ module _ (nearer : ℕ → ℕ → Type 0) (through : (i j k : ℕ) → nearer i
   nearest-joined p q all bound b r split f g a c =
       record {
         none = λ j h n. ⊎-elim (λ u. a .none j u (as-near q j b r (c .found) n)) (λ u. c .none j u n) (split j h);
-        found = ⊎-elim (λ e. subst (λ (s : ℕ). (s ≡ bound) ⊎ (all s × nearer s bound)) (sym e) (⊎-elim (λ d. inl d) (λ w. inr (f b (w .0), w .1)) (a .found)))
+        found =
+            ⊎-elim
+            (λ e. subst (λ (s : ℕ). (s ≡ bound) ⊎ (all s × nearer s bound)) (sym e) (⊎-elim (λ d. inl d) (λ w. inr (f b (w .0), w .1)) (a .found)))
             (λ w. inr (g r (w .0), as-near p r bound b (a .found) (w .1))) (c .found);
       }
 

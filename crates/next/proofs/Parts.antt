@@ -75,7 +75,8 @@ module _ (held : ℕ → Bool) (z : Offsets) (good : zoneGood z ≡ true) where
         here = nearest-same nearer _ _ b r (λ j s. (of-offset j (s .0), s .1)) (λ j s. (by-offset j (s .0), s .1)) c
 
         -- after those before it
-        pub stretch-after : (low : ℕ) → low ≤ from → Nearest nearer (Kept held z kept low from) bound b → Nearest nearer (Kept held z kept low end) bound r
+        pub stretch-after : (low : ℕ) → low ≤ from → Nearest nearer (Kept held z kept low from) bound b
+            → Nearest nearer (Kept held z kept low end) bound r
         stretch-after low l a =
             nearest-joined nearer through _ _ _ bound b r
             (λ j s. ⊎-elim (λ u. inl (u, s .1)) (λ u. inr (u, s .1)) (split-at held z low from end j (s .0)))
@@ -83,7 +84,8 @@ module _ (held : ℕ → Bool) (z : Offsets) (good : zoneGood z ≡ true) where
             (λ j s. (wider held z from end low end j l (omega arith) (s .0), s .1)) a here
 
         -- or before those after it
-        pub stretch-before : (high : ℕ) → end ≤ high → Nearest nearer (Kept held z kept end high) bound b → Nearest nearer (Kept held z kept from high) bound r
+        pub stretch-before : (high : ℕ) → end ≤ high → Nearest nearer (Kept held z kept end high) bound b
+            → Nearest nearer (Kept held z kept from high) bound r
         stretch-before high l a =
             nearest-joined nearer through _ _ _ bound b r
             (λ j s. ⊎-elim (λ u. inr (u, s .1)) (λ u. inl (u, s .1)) (split-at held z from end high j (s .0)))

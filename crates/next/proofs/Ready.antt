@@ -53,7 +53,8 @@ ready plan before rows count l a s = by-load (load plan) refl a
         let n : count ≡ length fs = cc in
         let few : length fs ≤ 64 = taken-few plan fs e in
         let r : take (length fs) rows ≡ map rowOf fs =
-        ap (take (length fs)) (s ∙ ap (λ (gs : List Frame). sets before 0 (map rowOf gs)) (readFrames-of-taken plan fs e)) ∙ front fs before (omega arith) in
+        ap (take (length fs)) (s ∙ ap (λ (gs : List Frame). sets before 0 (map rowOf gs)) (readFrames-of-taken plan fs e))
+        ∙ front fs before (omega arith) in
         let z = taken-zone plan fs e rows r in
         let m : min count 64 ≡ length fs = omega arith in
         record {
@@ -79,7 +80,8 @@ unfolding AnswerBy
 answer-refused right plan k a = rw (load-refused plan k a) refl
 
 -- what is right of the rows' instants and zone is right of the plan's
-right-same : (p q : ℕ → Type 0) → ((j : ℕ) → p j → q j) → ((j : ℕ) → q j → p j) → (z : Offsets) (ask : Ask) (f : Found) → RightOf p z ask f → RightOf q z ask f
+right-same : (p q : ℕ → Type 0) → ((j : ℕ) → p j → q j) → ((j : ℕ) → q j → p j) → (z : Offsets) (ask : Ask) (f : Found) → RightOf p z ask f
+    → RightOf q z ask f
 unfolding RightOf
 right-same p q to back z (Ask.Next i) f a = next-same p q to back i f a
 right-same p q to back z (Ask.Previous i) f a = previous-same p q to back i f a
@@ -104,7 +106,8 @@ module _ (plan : List ℕ) (rows : List (List ℕ)) (count : ℕ) (r : Ready pla
 
 -- what is asked has one right answer, in the form that its function answers
 module _ {X : Type 0} (of : Answer → X) (found : List Frame → Found) (by : Load → X)
-    (is-taken : (fs : List Frame) → of (answerOf (found fs)) ≡ by (taken fs)) (is-refused : (k : ℕ) → of (Answer.Refused k) ≡ by (refused k)) where
+    (is-taken : (fs : List Frame) → of (answerOf (found fs)) ≡ by (taken fs)) (is-refused : (k : ℕ)
+    → of (Answer.Refused k) ≡ by (refused k)) where
   one-answer : (l : Load) (a : Answer) → AnswerBy (λ (fs : List Frame) (r : Found). r ≡ found fs) l a → of a ≡ by l
   unfolding AnswerBy
   one-answer (taken fs) (Answer.Is i) e = ap (λ (f : Found). of (answerOf f)) e ∙ is-taken fs

@@ -42,17 +42,25 @@ module _ (held : ℕ → Bool) (offset low high : ℕ) where
       none-latest = nearest-start _ _ _ (λ j s n. none-between a b first past f t h j (s .0) n (s .1))
 
     -- the least minute of the range becomes the earliest of those between
-    pub least-earliest : (m r : ℕ) → r + offset ≡ m + 2880 → Least held first past m → m < past → Earliest (Later a (Shifted held offset low high)) b r
+    pub least-earliest : (m r : ℕ) → r + offset ≡ m + 2880 → Least held first past m → m < past
+        → Earliest (Later a (Shifted held offset low high)) b r
     least-earliest m r e l g =
         record {
           none = λ j s n. none-between a r first m f (omega arith) (l .fails) j (s .0) (s .1) n;
-          found = inr ((record { minute = m; from = omega (arith, l .from); below = omega arith; holds = l .passes g; becomes = e }, omega (arith, l .from)), omega arith);
+          found = inr (
+            (record { minute = m; from = omega (arith, l .from); below = omega arith; holds = l .passes g; becomes = e }, omega (arith, l .from)),
+            omega arith,
+          );
         }
 
     -- and the last becomes the latest
-    pub last-latest : (p r : ℕ) → r + offset + 1 ≡ p + 2880 → Last held first past p → first < p → Latest (Earlier b (Shifted held offset low high)) a r
+    pub last-latest : (p r : ℕ) → r + offset + 1 ≡ p + 2880 → Last held first past p → first < p
+        → Latest (Earlier b (Shifted held offset low high)) a r
     last-latest p r e l g =
         record {
           none = λ j s n. none-between r b p past (omega arith) t (l .fails) j (s .0) n (s .1);
-          found = inr ((record { minute = p - 1; from = omega arith; below = omega (arith, l .to); holds = l .passes g; becomes = omega arith }, omega (arith, l .to)), omega arith);
+          found = inr (
+            (record { minute = p - 1; from = omega arith; below = omega (arith, l .to); holds = l .passes g; becomes = omega arith }, omega (arith, l .to)),
+            omega arith,
+          );
         }

@@ -21,7 +21,10 @@ module _ (w : Zone) (passed : Passed w) where
   pub from-there : (j k offset : ℕ) → k ≡ j + 1 → j < min (w .count) 32 → offset ≡ stretchOffset (offsetsOf w) j
       → boundary offset (heldAt w j) ≡ stretchFrom (offsetsOf w) k
   from-there j k offset e l o =
-      ap (λ (x : ℕ). boundary x (heldAt w j)) o ∙ sym (held-end w passed j l) ∙ sym (stretch-ends (offsetsOf w) j) ∙ ap (stretchFrom (offsetsOf w)) (sym e)
+      ap (λ (x : ℕ). boundary x (heldAt w j)) o
+      ∙ sym (held-end w passed j l)
+      ∙ sym (stretch-ends (offsetsOf w) j)
+      ∙ ap (stretchFrom (offsetsOf w)) (sym e)
 
   -- the last ends with the window
   pub last-end : (k : ℕ) → min (w .count) 32 ≤ k → 52596000 ≡ stretchFrom (offsetsOf w) (k + 1)

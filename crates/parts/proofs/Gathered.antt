@@ -122,7 +122,8 @@ module _ (p : Part) where
 
   range-more : (ps : List Part) → allOf partInRange (ps ++ (p ∷ [])) ≡ (allOf partInRange ps && partInRange p)
   range-more [] = and-true (partInRange p)
-  range-more (q ∷ ps) = ap (λ (b : Bool). partInRange q && b) (range-more ps) ∙ sym (and-assoc (partInRange q) (allOf partInRange ps) (partInRange p))
+  range-more (q ∷ ps) =
+      ap (λ (b : Bool). partInRange q && b) (range-more ps) ∙ sym (and-assoc (partInRange q) (allOf partInRange ps) (partInRange p))
 
   twice-more : (ps : List Part) → givenTwice (ps ++ (p ∷ [])) ≡ (givenTwice ps || named (nameOf p) ps)
   unfolding givenTwice
@@ -137,7 +138,8 @@ module _ (p : Part) where
   lookup-there k [] e = let z : _≡_ {A = ℕ} 0 1 = cc in absurd (omega arith)
   lookup-there k (q ∷ ps) e = by-first (eqb (nameOf q) k) e (lookup-there k ps)
     where
-      by-first : (b : Bool) → (b || named k ps) ≡ true → (named k ps ≡ true → lookup k (ps ++ (p ∷ [])) ≡ lookup k ps) → cond b (some q) (lookup k (ps ++ (p ∷ []))) ≡ cond b (some q) (lookup k ps)
+      by-first : (b : Bool) → (b || named k ps) ≡ true → (named k ps ≡ true → lookup k (ps ++ (p ∷ [])) ≡ lookup k ps)
+          → cond b (some q) (lookup k (ps ++ (p ∷ []))) ≡ cond b (some q) (lookup k ps)
       by-first true e again = refl
       by-first false e again = again e
 
@@ -146,7 +148,8 @@ module _ (p : Part) where
   lookup-new k [] e = (refl, refl)
   lookup-new k (q ∷ ps) e = by-first (eqb (nameOf q) k) e (lookup-new k ps)
     where
-      by-first : (b : Bool) → (b || named k ps) ≡ false → (named k ps ≡ false → (lookup k (ps ++ (p ∷ [])) ≡ firstOf k p none) × (lookup k ps ≡ none))
+      by-first : (b : Bool) → (b || named k ps) ≡ false
+          → (named k ps ≡ false → (lookup k (ps ++ (p ∷ [])) ≡ firstOf k p none) × (lookup k ps ≡ none))
           → (cond b (some q) (lookup k (ps ++ (p ∷ []))) ≡ firstOf k p none) × (cond b (some q) (lookup k ps) ≡ none)
       by-first true e again = let z : _≡_ {A = ℕ} 0 1 = cc in absurd (omega arith)
       by-first false e again = again e
@@ -155,14 +158,17 @@ module _ (p : Part) where
   two-names : (k j : ℕ) (ps : List Part) → named k ps ≡ true → named j ps ≡ false → eqb j k ≡ false
   two-names k j ps e f = ne-eqb j k (λ (q : j ≡ k). true≢false (sym e ∙ ap (λ (n : ℕ). named n ps) (sym q) ∙ f))
 
-  lookup-more : (k : ℕ) (ps : List Part) (b : Bool) → named (nameOf p) ps ≡ b → lookup k (ps ++ (p ∷ [])) ≡ cond b (lookup k ps) (lookup k (p ∷ ps))
+  lookup-more : (k : ℕ) (ps : List Part) (b : Bool) → named (nameOf p) ps ≡ b
+      → lookup k (ps ++ (p ∷ [])) ≡ cond b (lookup k ps) (lookup k (p ∷ ps))
   unfolding lookup
   lookup-more k ps b e = by-name (named k ps) refl b e
     where
-      by-name : (c : Bool) → named k ps ≡ c → (b : Bool) → named (nameOf p) ps ≡ b → lookup k (ps ++ (p ∷ [])) ≡ cond b (lookup k ps) (lookup k (p ∷ ps))
+      by-name : (c : Bool) → named k ps ≡ c → (b : Bool) → named (nameOf p) ps ≡ b
+          → lookup k (ps ++ (p ∷ [])) ≡ cond b (lookup k ps) (lookup k (p ∷ ps))
       by-name true c true e = lookup-there k ps c
       by-name true c false e = lookup-there k ps c ∙ sym (rw (two-names k (nameOf p) ps c e) refl)
-      by-name false c true e = let n = lookup-new k ps c in n .0 ∙ rw (same-either-way (nameOf p) k ∙ two-names (nameOf p) k ps e c, n .1) refl
+      by-name false c true e =
+          let n = lookup-new k ps c in n .0 ∙ rw (same-either-way (nameOf p) k ∙ two-names (nameOf p) k ps e c, n .1) refl
       by-name false c false e = let n = lookup-new k ps c in n .0 ∙ rw (n .1) refl
 
   given-more : (ps : List Part) (b : Bool) → named (nameOf p) ps ≡ b → givenOf (ps ++ (p ∷ [])) ≡ cond b (givenOf ps) (givenOf (p ∷ ps))
@@ -185,7 +191,8 @@ built names twice good g =
       positions = numbersFrom (g .positions);
     }
 
-value-more : (names : ℕ) (twice good : Bool) (p : Part) (ps : List Part) → withValue (built names twice good (givenOf ps)) (partAs p) ≡ built names twice good (givenOf (p ∷ ps))
+value-more : (names : ℕ) (twice good : Bool) (p : Part) (ps : List Part)
+    → withValue (built names twice good (givenOf ps)) (partAs p) ≡ built names twice good (givenOf (p ∷ ps))
 unfolding withValue partAs givenOf
 value-more names twice good (freq f) ps = refl
 value-more names twice good (interval n) ps = refl
@@ -232,7 +239,9 @@ module _ (p : Part) (ps : List Part) where
   name-bit = bit-in-mask (λ k. named k ps) 7 0 (nameOf p) (omega arith) (name-below p)
 
   names-same : named (nameOf p) ps ≡ true → namesOf (ps ++ (p ∷ [])) ≡ namesOf ps
-  names-same e = mask-from-same (λ k. named k (ps ++ (p ∷ []))) (λ k. named k ps) 7 0 (λ k l h. any-more p (λ q. eqb (nameOf q) k) ps ∙ by-name k (eqb (nameOf p) k) refl)
+  names-same e =
+      mask-from-same (λ k. named k (ps ++ (p ∷ []))) (λ k. named k ps) 7 0
+      (λ k l h. any-more p (λ q. eqb (nameOf q) k) ps ∙ by-name k (eqb (nameOf p) k) refl)
     where
       by-name : (k : ℕ) (b : Bool) → eqb (nameOf p) k ≡ b → (named k ps || b) ≡ named k ps
       by-name k true f = or-true (named k ps) ∙ sym (sym (ap (λ (n : ℕ). named n ps) (eqb-true (nameOf p) k f)) ∙ e)
@@ -253,9 +262,29 @@ module _ (p : Part) (ps : List Part) where
     where
       by-name : (b : Bool) → named (nameOf p) ps ≡ b → taken (partsGiven ps) (partAs p) ≡ partsGiven (ps ++ (p ∷ []))
       by-name true e =
-          rw (name-as p, good-as p, name-bit ∙ e, names-same e, twice-more p ps, range-more p ps, given-more p ps true e, e, or-true (givenTwice ps)) refl
+          rw (
+            name-as p,
+            good-as p,
+            name-bit ∙ e,
+            names-same e,
+            twice-more p ps,
+            range-more p ps,
+            given-more p ps true e,
+            e,
+            or-true (givenTwice ps),
+          ) refl
       by-name false e =
-          rw (name-as p, good-as p, name-bit ∙ e, names-new, twice-more p ps, range-more p ps, given-more p ps false e, e, or-false (givenTwice ps))
+          rw (
+            name-as p,
+            good-as p,
+            name-bit ∙ e,
+            names-new,
+            twice-more p ps,
+            range-more p ps,
+            given-more p ps false e,
+            e,
+            or-false (givenTwice ps),
+          )
           (value-more (namesOf (ps ++ (p ∷ []))) (givenTwice ps) (allOf partInRange ps && partInRange p) p ps)
 
 -- ---- all of them
@@ -274,6 +303,7 @@ parts-by : (o : Option (List Part × ℕ)) → takenAs takePart partsIs Answer.N
 parts-by none = refl
 parts-by (some r) = ap (λ (m : Parts). partsIs m (r .1)) (parts-over [] (r .0))
 
-pub parts-taken : (s : List ℕ) (at : ℕ) → takenAs takePart partsIs Answer.Not (partsGiven []) (listAt (partRead s) 59 s (length s + 1) at) ≡ partsAs (partsRead s at)
+pub parts-taken : (s : List ℕ) (at : ℕ)
+    → takenAs takePart partsIs Answer.Not (partsGiven []) (listAt (partRead s) 59 s (length s + 1) at) ≡ partsAs (partsRead s at)
 unfolding partsRead
 parts-taken s at = parts-by (listAt (partRead s) 59 s (length s + 1) at)

@@ -25,7 +25,8 @@ module _ (c : ℕ) where
   first-differs y q w = ne-eqb c y (λ (e : c ≡ y). eqb-false y c (w 0 (omega arith)) (sym e))
 
   -- a name and its separator begin a piece and its separator exactly if the name is the piece
-  pub head-same : (name q rest : List ℕ) → allOf (λ x. not (eqb x c)) name ≡ true → Whole c q → startsWith (name ++ (c ∷ [])) (q ++ (c ∷ rest)) ≡ sameBytes name q
+  pub head-same : (name q rest : List ℕ) → allOf (λ x. not (eqb x c)) name ≡ true → Whole c q
+      → startsWith (name ++ (c ∷ [])) (q ++ (c ∷ rest)) ≡ sameBytes name q
   unfolding startsWith sameBytes
   head-same [] [] rest a w = rw (eq-eqb c c refl) refl
   head-same [] (y ∷ q) rest a w = rw (first-differs y q w) refl
@@ -55,7 +56,8 @@ module _ (c : ℕ) (s : List ℕ) (at : ℕ) (q : List ℕ) (whole : Whole c q) 
       → oneAt (heads c names) s at ≡ placed (at + length q + 1) (wordOf names q)
   unfolding oneAt wordOf
   heads-same rest here [] a = refl
-  heads-same rest here (name ∷ names) a = by-same (sameBytes name q) refl (heads-same rest here names (both-true (allOf (λ x. not (eqb x c)) name) _ a .1))
+  heads-same rest here (name ∷ names) a =
+      by-same (sameBytes name q) refl (heads-same rest here names (both-true (allOf (λ x. not (eqb x c)) name) _ a .1))
     where
       starts : startsWith (name ++ (c ∷ [])) (drop at s) ≡ sameBytes name q
       starts = ap (startsWith (name ++ (c ∷ []))) here ∙ head-same c name q rest (both-true (allOf (λ x. not (eqb x c)) name) _ a .0) whole
@@ -68,11 +70,13 @@ module _ (c : ℕ) (s : List ℕ) (at : ℕ) (q : List ℕ) (whole : Whole c q) 
           → cond (startsWith (name ++ (c ∷ [])) (drop at s)) (some (0, at + length (name ++ (c ∷ [])))) (madeRead suc (oneAt (heads c names) s at))
           ≡ placed (at + length q + 1) (cond (sameBytes name q) (some 0) (made suc (wordOf names q)))
       by-same true e again =
-          let n : at + length (name ++ (c ∷ [])) ≡ at + length q + 1 = omega (arith, length-append name (c ∷ []), ap length (same-is name q e)) in
+          let n : at + length (name ++ (c ∷ [])) ≡ at + length q + 1 =
+          omega (arith, length-append name (c ∷ []), ap length (same-is name q e)) in
           rw (starts, e, n) refl
       by-same false e again = rw (starts, e, again) (next (wordOf names q))
 
-  pub heads-never : (tail : List ℕ) → drop at s ≡ q ++ tail → (names : List (List ℕ)) → without (getD tail 0 0) (heads c names) ≡ true → oneAt (heads c names) s at ≡ none
+  pub heads-never : (tail : List ℕ) → drop at s ≡ q ++ tail → (names : List (List ℕ)) → without (getD tail 0 0) (heads c names) ≡ true
+      → oneAt (heads c names) s at ≡ none
   unfolding oneAt
   heads-never tail here [] a = refl
   heads-never tail here (name ∷ names) a =

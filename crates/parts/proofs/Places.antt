@@ -38,4 +38,5 @@ part-after s at = by-head (oneAt partHeads s at) refl
     by-head : (o : Option (ℕ × ℕ)) → oneAt partHeads s at ≡ o → Reads (λ x e. at ≤ e) (partRead s at)
     by-head none q = rw (part-not s at q) (read-none (λ (x : Part) (e : ℕ). at ≤ e))
     by-head (some r) q =
-        rw (part-value s at (r .0) (r .1) q) (λ x e p. omega (arith, one-after partHeads s at (r .0) (r .1) q, value-after (r .0) s (r .1) x e p))
+        rw (part-value s at (r .0) (r .1) q)
+        (λ x e p. omega (arith, one-after partHeads s at (r .0) (r .1) q, value-after (r .0) s (r .1) x e p))

@@ -44,21 +44,29 @@ frequency-form p = by-word (wordOf frequencyWords p) refl
     by-place (suc (suc zero)) h = refl
     by-place (suc (suc (suc k))) h = absurd (omega arith)
 
-    by-word : (o : Option ℕ) → wordOf frequencyWords p ≡ o → frequencyAt (wordIn frequencyWords p) ≡ made (λ (f : ℕ). freq (frequencyOf f)) o
+    by-word : (o : Option ℕ) → wordOf frequencyWords p ≡ o
+        → frequencyAt (wordIn frequencyWords p) ≡ made (λ (f : ℕ). freq (frequencyOf f)) o
     by-word none e = rw (word-place frequencyWords p none e) refl
     by-word (some k) e = rw (word-place frequencyWords p (some k) e) (by-place k (word-tested (λ w. true) frequencyWords p k refl e .1))
 
 module _ (s : List ℕ) (at : ℕ) (p tail : List ℕ) (here : drop at s ≡ p ++ tail) (ends : End tail) (other : eqb (getD tail 0 0) 44 ≡ false) where
-  value-by : {A : Type 0} (part : A → Part) (o : Option A) (r : Option (A × ℕ)) → Tied o r at (at + length p) → Tied (made part o) (madeRead part r) at (at + length p)
+  value-by : {A : Type 0} (part : A → Part) (o : Option A) (r : Option (A × ℕ)) → Tied o r at (at + length p)
+      → Tied (made part o) (madeRead part r) at (at + length p)
   value-by part o r t = tied-made part o r at at (at + length p) (omega arith) t
 
   pub value-tied : (k : ℕ) → k < 7 → Tied (valueOf k p) (valueRead k s at) at (at + length p)
   unfolding valueOf valueRead
-  value-tied zero h = rw (frequency-form p) (value-by (λ (f : ℕ). freq (frequencyOf f)) _ _ (one-tied s at p tail here frequencyWords frequencies-apart (end-frequencies ends)))
+  value-tied zero h =
+      rw (frequency-form p)
+      (value-by (λ (f : ℕ). freq (frequencyOf f)) _ _ (one-tied s at p tail here frequencyWords frequencies-apart (end-frequencies ends)))
   value-tied (suc zero) h = rw (part-made interval (numberOf p)) (value-by interval _ _ (number-tied s at p tail here (end-digits ends)))
   value-tied (suc (suc zero)) h = rw (part-made count (numberOf p)) (value-by count _ _ (number-tied s at p tail here (end-digits ends)))
-  value-tied (suc (suc (suc zero))) h = rw (part-made until (timeOf p)) (value-by until _ _ (time-tied s at p tail (end-digits ends) (end-letter ends) here))
-  value-tied (suc (suc (suc (suc zero)))) h = rw (part-made byDay (eachOf entryOf (pieces 44 p))) (value-by byDay _ _ (days-tied s at p tail here ends other))
-  value-tied (suc (suc (suc (suc (suc zero))))) h = rw (part-made byMonthDay (eachOf signedOf (pieces 44 p))) (value-by byMonthDay _ _ (numbers-tied s at p tail here ends other))
-  value-tied (suc (suc (suc (suc (suc (suc zero)))))) h = rw (part-made bySetPos (eachOf signedOf (pieces 44 p))) (value-by bySetPos _ _ (numbers-tied s at p tail here ends other))
+  value-tied (suc (suc (suc zero))) h =
+      rw (part-made until (timeOf p)) (value-by until _ _ (time-tied s at p tail (end-digits ends) (end-letter ends) here))
+  value-tied (suc (suc (suc (suc zero)))) h =
+      rw (part-made byDay (eachOf entryOf (pieces 44 p))) (value-by byDay _ _ (days-tied s at p tail here ends other))
+  value-tied (suc (suc (suc (suc (suc zero))))) h =
+      rw (part-made byMonthDay (eachOf signedOf (pieces 44 p))) (value-by byMonthDay _ _ (numbers-tied s at p tail here ends other))
+  value-tied (suc (suc (suc (suc (suc (suc zero)))))) h =
+      rw (part-made bySetPos (eachOf signedOf (pieces 44 p))) (value-by bySetPos _ _ (numbers-tied s at p tail here ends other))
   value-tied (suc (suc (suc (suc (suc (suc (suc k))))))) h = absurd (omega arith)

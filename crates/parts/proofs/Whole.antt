@@ -120,7 +120,8 @@ module _ (s : List ℕ) (at : ℕ) (p tail : List ℕ) (here : drop at s ≡ p +
   pub part-tied : Tied (partOf p) (partRead s at) at (at + length p)
   part-tied = by-cut (cut-of 61 p)
     where
-      by-after : (q t : List ℕ) (others : List (List ℕ)) → p ≡ q ++ t → pieces 61 p ≡ q ∷ others → Whole 61 q → After 61 t others → Tied (partOf p) (partRead s at) at (at + length p)
+      by-after : (q t : List ℕ) (others : List (List ℕ)) → p ≡ q ++ t → pieces 61 p ≡ q ∷ others → Whole 61 q → After 61 t others
+          → Tied (partOf p) (partRead s at) at (at + length p)
       by-after q t others e d whole ended = alone q e d whole
       by-after q t others e d whole (more rest) = by-name q rest e d whole (wordOf partWords q) refl
 

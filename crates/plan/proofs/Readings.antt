@@ -64,7 +64,8 @@ by-digits line bytes e =
     rw (n, e, lineFrame)
     (same-frame (numberAt line) (field bytes) (length bytes) (number-is-field line bytes e) (first-byte line bytes e))
 
-any-line : (line : List ℕ) (o : Option (List ℕ)) → lineBytes line ≡ o → isSome o ≡ true → frameFrom (numberAt line) (length line / 2) ≡ lineFrame line
+any-line : (line : List ℕ) (o : Option (List ℕ)) → lineBytes line ≡ o → isSome o ≡ true
+    → frameFrom (numberAt line) (length line / 2) ≡ lineFrame line
 any-line line none e h = let z : _≡_ {A = ℕ} 0 1 = cc in absurd (omega arith)
 any-line line (some bytes) e h = by-digits line bytes e
 

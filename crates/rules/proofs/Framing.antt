@@ -37,7 +37,8 @@ withNumbers f days monthDays first =
     cond (eqb (frequencyNumber f) 3 && (not (daysFrom days .given) && not (numbersFrom monthDays .given))) (record { front = 2 ^ localDate first .day; back = 0 })
     (record { front = numbersFrom monthDays .front; back = numbersFrom monthDays .back })
 
-days-are : (f : Frequency) (days : Option (List Entry)) (monthDays : Option (List Signed)) (first : ℕ) → (eqb (frequencyNumber f) 2 && isGiven monthDays) ≡ false
+days-are : (f : Frequency) (days : Option (List Entry)) (monthDays : Option (List Signed)) (first : ℕ)
+    → (eqb (frequencyNumber f) 2 && isGiven monthDays) ≡ false
     → withNumbers f days monthDays first ≡ daysOf f days monthDays first
 unfolding daysOf weekdaysGiven numbersGiven
 days-are daily days none first e = refl
@@ -54,7 +55,8 @@ unfolding weekdaysGiven
 ordinals-are none = refl
 ordinals-are (some es) = refl
 
-positions-are : (o : Option (List Signed)) → _≡_ {A = Ends} (record { front = numbersFrom o .front; back = numbersFrom o .back }) (positionsFor o)
+positions-are : (o : Option (List Signed))
+    → _≡_ {A = Ends} (record { front = numbersFrom o .front; back = numbersFrom o .back }) (positionsFor o)
 unfolding numbersGiven
 positions-are none = refl
 positions-are (some ns) = refl
@@ -122,7 +124,8 @@ module _ (ps : List Part) (start : ℕ) where
         ap
         (λ (o : Option Frequency).
         let h = Option·getD o daily in
-        frame (frequencyNumber h) (weekdaysOf h (g .days) first) (daysOf h (g .days) (g .monthDays) first) (ordinalsFor (g .days)) (positionsFor (g .positions)))
+        frame (frequencyNumber h) (weekdaysOf h (g .days) first) (daysOf h (g .days) (g .monthDays) first) (ordinalsFor (g .days))
+        (positionsFor (g .positions)))
         (sym e)
 
     by-fields : frame (p .frequency) (weekdaysIn p first) (daysIn p first) ordinalsIn positionsIn
@@ -130,9 +133,11 @@ module _ (ps : List Part) (start : ℕ) where
     by-fields =
         ap₂ (λ (q w : ℕ). frame q w (daysIn p first) ordinalsIn positionsIn) (frequency-in ps (some f) e) weekdays-in
         ∙ ap (λ (d : Ends). frame (frequencyNumber f) (weekdaysOf f (g .days) first) d ordinalsIn positionsIn) days-in
-        ∙ ap₂ (λ (o s : Ends). frame (frequencyNumber f) (weekdaysOf f (g .days) first) (daysOf f (g .days) (g .monthDays) first) o s) ordinals-in positions-in
+        ∙ ap₂ (λ (o s : Ends). frame (frequencyNumber f) (weekdaysOf f (g .days) first) (daysOf f (g .days) (g .monthDays) first) o s)
+        ordinals-in positions-in
 
-  endless-by : (o : Option Frequency) → g .frequency ≡ o → byFrequency o g ≡ true → endless p start ≡ endingAt windowLast (ruleFrame g start)
+  endless-by : (o : Option Frequency) → g .frequency ≡ o → byFrequency o g ≡ true
+      → endless p start ≡ endingAt windowLast (ruleFrame g start)
   unfolding byFrequency
   endless-by none e t = absurd (false≢true t)
   endless-by (some f) e t = let c = not-true (clashing f g) t in endless-in ∙ by-fields f e c ∙ frame-in f e c

@@ -112,7 +112,8 @@ module _ (ps : List Part) where
       ∙ ap₂ (λ (a b : Bool). not (a || b)) ordinal-in (ap₂ _||_ positions-in days-in)
   by-frequency-is (some monthly) e =
       monthly-in p (frequency-in (some monthly) e)
-      ∙ ap₂ (λ (a b : Bool). not (a && b)) positions-in (neither (p .weekdays .given) (p .days .given) ∙ ap₂ (λ (a b : Bool). not (a || b)) weekdays-in days-in)
+      ∙ ap₂ (λ (a b : Bool). not (a && b)) positions-in
+      (neither (p .weekdays .given) (p .days .given) ∙ ap₂ (λ (a b : Bool). not (a || b)) weekdays-in days-in)
 
   pub together-is : togetherIn p ≡ partsTogether ps
   unfolding togetherIn partsTogether

@@ -31,7 +31,8 @@ use Rattle.rules.proofs.Going.{together-is}
 use Rattle.rules.proofs.Lasts.{day-with-last}
 
 -- ---- UNTIL, where it is given and in range
-until-after : (o : Option Time) (m : ℕ) → givenPasses timeInRange o ≡ true → cond (untilFrom o .given) (leb m (untilFrom o .number)) true ≡ withinUntil o m
+until-after : (o : Option Time) (m : ℕ) → givenPasses timeInRange o ≡ true
+    → cond (untilFrom o .given) (leb m (untilFrom o .number)) true ≡ withinUntil o m
 until-after none m e = refl
 until-after (some t) m e = rw e refl
 
@@ -69,7 +70,8 @@ module _ (t : Time) (ps : List Part) (inside : inRange (rule t ps) ≡ true) (w 
   until-good = rule-good t ps w inside .until
 
   day-in : (d : ℕ) → d < windowDays → ruleDay f d ≡ day d
-  day-in d h = ap (λ (r : Rule). ruleDay r d) (endless-is ps start go) ∙ day-with-last windowLast (ruleFrame g start) d ∙ rule-day t ps inside w d h
+  day-in d h =
+      ap (λ (r : Rule). ruleDay r d) (endless-is ps start go) ∙ day-with-last windowLast (ruleFrame g start) d ∙ rule-day t ps inside w d h
 
   occurs-in : ruleOccurs f start ≡ occursAt g start start
   unfolding ruleOccurs occursAt endless
@@ -87,7 +89,8 @@ module _ (t : Time) (ps : List Part) (inside : inRange (rule t ps) ≡ true) (w 
   last-is : lastIn p f ≡ lastOf g start
   unfolding lastIn lastOf partsGiven
   last-is =
-      ap (λ (l : ℕ). cond (untilFrom (g .until) .given) (untilFrom (g .until) .number) (cond (countFrom (g .count) .given) l windowLast)) (count-last-is (countFrom (g .count) .number))
+      ap (λ (l : ℕ). cond (untilFrom (g .until) .given) (untilFrom (g .until) .number) (cond (countFrom (g .count) .given) l windowLast))
+      (count-last-is (countFrom (g .count) .number))
       ∙ last-by (nthLast day start) (g .until) (g .count) until-good
 
   frame-is : endingAt (lastIn p f) f ≡ ruleFrame g start

@@ -9,7 +9,8 @@ use Rattle.lines.proofs.Joined.{joined, lines-joined}
 use Rattle.lines.specs.Lines.{linesOf}
 use Rattle.sheet.specs.Refusals.{badLine, badAt, badLength}
 
-in-joined : (k : ℕ) (ls : List (List ℕ)) (tail : List ℕ) → take (badLength k ls tail) (drop (badAt k ls) (joined ls tail)) ≡ badLine k ls tail
+in-joined : (k : ℕ) (ls : List (List ℕ)) (tail : List ℕ)
+    → take (badLength k ls tail) (drop (badAt k ls) (joined ls tail)) ≡ badLine k ls tail
 unfolding badLine badAt badLength
 in-joined zero ls tail = refl
 in-joined (suc zero) [] tail = take-length tail
@@ -24,5 +25,6 @@ in-joined (suc (suc k)) (l ∷ ls) tail =
 pub bad-line-shown : (text : List ℕ) (k : ℕ)
     → take (badLength k (linesOf text .whole) (linesOf text .tail)) (drop (badAt k (linesOf text .whole)) text) ≡ badLine k (linesOf text .whole) (linesOf text .tail)
 bad-line-shown text k =
-    ap (λ (t : List ℕ). take (badLength k (linesOf text .whole) (linesOf text .tail)) (drop (badAt k (linesOf text .whole)) t)) (sym (lines-joined text))
+    ap (λ (t : List ℕ). take (badLength k (linesOf text .whole) (linesOf text .tail)) (drop (badAt k (linesOf text .whole)) t))
+    (sym (lines-joined text))
     ∙ in-joined k (linesOf text .whole) (linesOf text .tail)

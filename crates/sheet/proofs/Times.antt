@@ -25,7 +25,8 @@ pub record InRange (t : Time) : Type 0 where
 pub in-range : (t : Time) → timeInRange t ≡ true → InRange t
 unfolding timeInRange
 in-range t e =
-    let w : T (within 2000 2099 (t .year) && (within 1 (monthLength (leapYear (t .year)) (t .month)) (t .day) && (leb (t .hour) 23 && leb (t .minute) 59))) = subst T (sym e) tt in
+    let w : T (within 2000 2099 (t .year) && (within 1 (monthLength (leapYear (t .year)) (t .month)) (t .day) && (leb (t .hour) 23 && leb (t .minute) 59))) =
+    subst T (sym e) tt in
     let y = left (within 2000 2099 (t .year)) _ w in
     let more = right (within 2000 2099 (t .year)) _ w in
     let d = left (within 1 (monthLength (leapYear (t .year)) (t .month)) (t .day)) _ more in
@@ -40,7 +41,8 @@ in-range t e =
     }
 
 -- a date of the years 2000 to 2099 is a day of the window
-pub day-in-window : (y m d : ℕ) → 2000 ≤ y → y ≤ 2099 → 1 ≤ d → d ≤ monthLength (leapYear y) m → (windowFirst ≤ dayOf y m d) × (dayOf y m d < windowFirst + windowDays)
+pub day-in-window : (y m d : ℕ) → 2000 ≤ y → y ≤ 2099 → 1 ≤ d → d ≤ monthLength (leapYear y) m
+    → (windowFirst ≤ dayOf y m d) × (dayOf y m d < windowFirst + windowDays)
 unfolding dayOf windowYear
 day-in-window y m d f l a b =
     let months = month-of-day (leapYear y) m d a b in

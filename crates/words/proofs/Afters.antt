@@ -47,7 +47,8 @@ unfolding oneAt
 one-read [] s at = read-none (λ k e. (at ≤ e) × (k < 0))
 one-read (w ∷ ws) s at =
     let P : ℕ → ℕ → Type 0 = λ k e. (at ≤ e) × (k < suc (length ws)) in
-    read-cond P (startsWith w (drop at s)) (some (0, at + length w)) (madeRead suc (oneAt ws s at)) (read-some P 0 (at + length w) (omega arith, omega arith))
+    read-cond P (startsWith w (drop at s)) (some (0, at + length w)) (madeRead suc (oneAt ws s at))
+    (read-some P 0 (at + length w) (omega arith, omega arith))
     (read-made suc P (oneAt ws s at) (λ k e q. let h = one-read ws s at k e q in (h .0, omega (arith, h))))
 
 pub one-after : (ws : List (List ℕ)) (s : List ℕ) (at k e : ℕ) → oneAt ws s at ≡ some (k, e) → at ≤ e
@@ -62,7 +63,8 @@ module _ (s : List ℕ) (at : ℕ) where
   unfolding numberAt
   number-after = by-range (within 1 4 (digitsIn (drop at s))) refl _
     where
-      by-range : (b : Bool) → within 1 4 (digitsIn (drop at s)) ≡ b → (v : ℕ) → Reads (λ n e. at < e) (numberRead (cond b (Number.Is v (cursor (at + digitsIn (drop at s)))) Number.Not))
+      by-range : (b : Bool) → within 1 4 (digitsIn (drop at s)) ≡ b → (v : ℕ)
+          → Reads (λ n e. at < e) (numberRead (cond b (Number.Is v (cursor (at + digitsIn (drop at s)))) Number.Not))
       by-range true g v = read-some (λ n e. at < e) v (at + digitsIn (drop at s)) (omega (arith, within-range 1 4 (digitsIn (drop at s)) g))
       by-range false g v = read-none (λ (n e : ℕ). at < e)
 
@@ -83,7 +85,8 @@ module _ (s : List ℕ) (at : ℕ) where
       by-plus true = omega arith
       by-plus false = omega arith
 
-      by-signs : (b c : Bool) → at ≤ (cond {A = Sign} b (record { minus = true; next = cursor (at + 1) }) (record { minus = false; next = cursor (cond c (at + 1) at) })) .next .at
+      by-signs : (b c : Bool)
+          → at ≤ (cond {A = Sign} b (record { minus = true; next = cursor (at + 1) }) (record { minus = false; next = cursor (cond c (at + 1) at) })) .next .at
       by-signs true c = omega arith
       by-signs false c = by-plus c
 
@@ -91,7 +94,8 @@ module _ (s : List ℕ) (at : ℕ) where
   unfolding signedAt
   signed-after = by-number (numberAt s (signAt s at .next .at)) refl
     where
-      by-number : (n : Number) → numberAt s (signAt s at .next .at) ≡ n → Reads (λ x e. at ≤ e) (signedRead (withSign (signAt s at .minus) n))
+      by-number : (n : Number) → numberAt s (signAt s at .next .at) ≡ n
+          → Reads (λ x e. at ≤ e) (signedRead (withSign (signAt s at .minus) n))
       by-number Number.Not g = read-none (λ (x : Signed) (e : ℕ). at ≤ e)
       by-number (Number.Is v c) g =
           read-some (λ x e. at ≤ e) (record { minus = signAt s at .minus; number = v }) (c .at)
@@ -113,14 +117,16 @@ module _ {A : Type 0} (P : A → Type 0) (read : ℕ → Option (A × ℕ)) (sep
     where
       by-more : (x : A) (f : ℕ) → at ≤ f → P x → (o : Option (List A × ℕ)) → Reads (ListRead (f + 1)) o → Reads (ListRead at) (before x o)
       by-more x f h p none g = read-none (ListRead at)
-      by-more x f h p (some r) g = let k = g (r .0) (r .1) refl in read-some (ListRead at) (x ∷ r .0) (r .1) (omega (arith, k), with p (k .1))
+      by-more x f h p (some r) g =
+          let k = g (r .0) (r .1) refl in read-some (ListRead at) (x ∷ r .0) (r .1) (omega (arith, k), with p (k .1))
 
       by-separator : (x : A) (f : ℕ) → at ≤ f → P x → (b : Bool) → Reads (ListRead (f + 1)) (listAt read separator s left (f + 1))
           → Reads (ListRead at) (elim b [ true ↦ before x (listAt read separator s left (f + 1)) | false ↦ some (x ∷ [], f) ])
       by-separator x f h p true g = by-more x f h p (listAt read separator s left (f + 1)) g
       by-separator x f h p false g = read-some (ListRead at) (x ∷ []) f (h, with p empty)
 
-      by-first : (o : Option (A × ℕ)) → read at ≡ o → ((at : ℕ) → Reads (ListRead at) (listAt read separator s left at)) → Reads (ListRead at) (listAt read separator s (suc left) at)
+      by-first : (o : Option (A × ℕ)) → read at ≡ o → ((at : ℕ) → Reads (ListRead at) (listAt read separator s left at))
+          → Reads (ListRead at) (listAt read separator s (suc left) at)
       by-first none q again = rw (listAt, q) (read-none (ListRead at))
       by-first (some r) q again =
           let h = each at (r .0) (r .1) q in

@@ -79,7 +79,8 @@ none-of w p (v ∷ ws) e a = by-same (sameBytes v p) refl (none-of w p ws e (bot
     by-same false f g = rw (f, g) refl
 
 module _ (s : List ℕ) (at : ℕ) (p tail : List ℕ) (here : drop at s ≡ p ++ tail) where
-  pub one-tied : (ws : List (List ℕ)) → prefixFree ws ≡ true → without (getD tail 0 0) ws ≡ true → Tied (wordOf ws p) (oneAt ws s at) at (at + length p)
+  pub one-tied : (ws : List (List ℕ)) → prefixFree ws ≡ true → without (getD tail 0 0) ws ≡ true
+      → Tied (wordOf ws p) (oneAt ws s at) at (at + length p)
   unfolding wordOf oneAt prefixFree
   one-tied [] f a = tied-none _ _
   one-tied (w ∷ ws) f a = by-start (startsWith w p) refl (one-tied ws (apart .1) (bytes .1))
@@ -93,11 +94,13 @@ module _ (s : List ℕ) (at : ℕ) (p tail : List ℕ) (here : drop at s ≡ p +
       starts : startsWith w (drop at s) ≡ startsWith w p
       starts = ap (startsWith w) here ∙ starts-front w p tail (bytes .0)
 
-      not-whole : (b : Bool) → sameBytes w p ≡ b → (length w ≡ length p → ⊥) → wordOf ws p ≡ none → cond (sameBytes w p) (some 0) (made suc (wordOf ws p)) ≡ none
+      not-whole : (b : Bool) → sameBytes w p ≡ b → (length w ≡ length p → ⊥) → wordOf ws p ≡ none
+          → cond (sameBytes w p) (some 0) (made suc (wordOf ws p)) ≡ none
       not-whole true e n g = absurd (n (ap length (same-is w p e)))
       not-whole false e n g = rw (e, g) refl
 
-      not-same : (b : Bool) → sameBytes w p ≡ b → startsWith w p ≡ false → cond (sameBytes w p) (some 0) (made suc (wordOf ws p)) ≡ made suc (wordOf ws p)
+      not-same : (b : Bool) → sameBytes w p ≡ b → startsWith w p ≡ false
+          → cond (sameBytes w p) (some 0) (made suc (wordOf ws p)) ≡ made suc (wordOf ws p)
       not-same true e n = let g : true ≡ false = sym (same-starts w p e) ∙ n in let z : _≡_ {A = ℕ} 0 1 = cc in absurd (omega arith)
       not-same false e n = rw e refl
 
@@ -118,7 +121,8 @@ unfolding wordIn wordOf
 word-in [] p = refl
 word-in (w ∷ ws) p = by-same (sameBytes w p) (wordOf ws p) (word-in ws p)
   where
-    by-same : (b : Bool) (o : Option ℕ) → wordIn ws p ≡ Option·getD o (length ws) → cond b 0 (suc (wordIn ws p)) ≡ Option·getD (cond b (some 0) (made suc o)) (suc (length ws))
+    by-same : (b : Bool) (o : Option ℕ) → wordIn ws p ≡ Option·getD o (length ws)
+        → cond b 0 (suc (wordIn ws p)) ≡ Option·getD (cond b (some 0) (made suc o)) (suc (length ws))
     by-same true o e = refl
     by-same false none e = ap suc e
     by-same false (some k) e = ap suc e

@@ -26,7 +26,8 @@ module _ (s : List ℕ) (at : ℕ) where
   digits-one h e = rw (drop-cons s at 0, digitsIn, e, add-one) refl
 
   -- one digit more of a number
-  pub decimal-one : (v k : ℕ) → at < length s → decimal v (take (suc k) (drop at s)) ≡ decimal (10 * v + (getD s at 0 - 48)) (take k (drop (at + 1) s))
+  pub decimal-one : (v k : ℕ) → at < length s
+      → decimal v (take (suc k) (drop at s)) ≡ decimal (10 * v + (getD s at 0 - 48)) (take k (drop (at + 1) s))
   unfolding decimal
   decimal-one v k h = rw (drop-cons s at 0, add-one) refl
 
@@ -52,7 +53,8 @@ pub byte-within : (s : List ℕ) (at b : ℕ) → 0 < b → getD s at 0 ≡ b �
 byte-within s at b h e = by-order at (length s) (λ l. l) (λ l. absurd (omega (arith, List·getD-eq-default s 0 l, e)))
 
 pub sign-within : (s : List ℕ) (at : ℕ) → (eqb (getD s at 0) 43 || eqb (getD s at 0) 45) ≡ true → at < length s
-sign-within s at e = by-order at (length s) (λ l. l) (λ l. let f : false ≡ true = rw (List·getD-eq-default s 0 l) at e in let z : _≡_ {A = ℕ} 0 1 = cc in absurd (omega arith))
+sign-within s at e =
+    by-order at (length s) (λ l. l) (λ l. let f : false ≡ true = rw (List·getD-eq-default s 0 l) at e in let z : _≡_ {A = ℕ} 0 1 = cc in absurd (omega arith))
 
 -- the number of n digits, of which i were passed
 module _ (s : List ℕ) (at n : ℕ) where

@@ -27,7 +27,8 @@ module _ {A M R : Type 0} (take : M → A → M) (is : M → ℕ → R) (not : R
     taken-not zero e = refl
     taken-not (suc left) e = rw (listAt, e) refl
 
-    pub taken-last : (left : ℕ) (x : A) (end : ℕ) → 0 < left → read at ≡ some (x, end) → eqb (getD s end 0) separator ≡ false → is (take m x) end ≡ takenAs m (listAt read separator s left at)
+    pub taken-last : (left : ℕ) (x : A) (end : ℕ) → 0 < left → read at ≡ some (x, end) → eqb (getD s end 0) separator ≡ false
+        → is (take m x) end ≡ takenAs m (listAt read separator s left at)
     unfolding listAt overAll
     taken-last zero x end h e f = absurd (omega arith)
     taken-last (suc left) x end h e f = rw (listAt, e, f) refl
@@ -36,24 +37,28 @@ module _ {A M R : Type 0} (take : M → A → M) (is : M → ℕ → R) (not : R
         → takenAs (take m x) (listAt read separator s left (end + 1)) ≡ takenAs m (listAt read separator s (suc left) at)
     unfolding listAt
     taken-next left x end e f =
-        let step : listAt read separator s (suc left) at ≡ before x (listAt read separator s left (end + 1)) = rw (listAt, e, eq-eqb _ _ f) refl in
+        let step : listAt read separator s (suc left) at ≡ before x (listAt read separator s left (end + 1)) =
+        rw (listAt, e, eq-eqb _ _ f) refl in
         sym (ap (takenAs m) step ∙ taken-before m x (listAt read separator s left (end + 1)))
 
 -- ---- a loop that takes up one element a turn: each turn begins with as much fuel as there are bytes, and one more
 module _ {A : Type 0} (read : ℕ → Option (A × ℕ)) (separator : ℕ) (s : List ℕ) (mark : 0 < separator) (after : (at : ℕ) (x : A) (e : ℕ) → read at ≡ some (x, e) → at ≤ e) where
   -- more fuel than bytes are left changes nothing
-  pub list-fuel : (left more at : ℕ) → length s - at < left → length s - at < more → listAt read separator s left at ≡ listAt read separator s more at
+  pub list-fuel : (left more at : ℕ) → length s - at < left → length s - at < more
+      → listAt read separator s left at ≡ listAt read separator s more at
   unfolding listAt
   list-fuel zero more at h k = absurd (omega arith)
   list-fuel (suc left) zero at h k = absurd (omega arith)
   list-fuel (suc left) (suc more) at h k = by-read (read at) refl (list-fuel left more)
     where
-      by-read : (o : Option (A × ℕ)) → read at ≡ o → ((at : ℕ) → length s - at < left → length s - at < more → listAt read separator s left at ≡ listAt read separator s more at)
+      by-read : (o : Option (A × ℕ)) → read at ≡ o
+          → ((at : ℕ) → length s - at < left → length s - at < more → listAt read separator s left at ≡ listAt read separator s more at)
           → listAt read separator s (suc left) at ≡ listAt read separator s (suc more) at
       by-read none e again = rw (listAt, e) refl
       by-read (some r) e again = by-byte (eqb (getD s (r .1) 0) separator) refl
         where
-          by-byte : (b : Bool) → eqb (getD s (r .1) 0) separator ≡ b → listAt read separator s (suc left) at ≡ listAt read separator s (suc more) at
+          by-byte : (b : Bool) → eqb (getD s (r .1) 0) separator ≡ b
+              → listAt read separator s (suc left) at ≡ listAt read separator s (suc more) at
           by-byte true f =
               let w = byte-within s (r .1) separator mark (eqb-true _ _ f) in
               let a = after at (r .0) (r .1) e in

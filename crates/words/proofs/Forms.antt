@@ -55,7 +55,8 @@ module _ (s : List ℕ) (at : ℕ) (tail : List ℕ) (stops : Stops tail) where
   next-bytes c p here = sym (drop-drop 1 at s) ∙ ap (drop 1) here
 
   -- with the sign that was read
-  signed-by : (p : List ℕ) (m : Bool) (next : ℕ) (whole : List ℕ) → signAt s at ≡ record { minus = m; next = cursor next } → drop next s ≡ p ++ tail
+  signed-by : (p : List ℕ) (m : Bool) (next : ℕ) (whole : List ℕ) → signAt s at ≡ record { minus = m; next = cursor next }
+      → drop next s ≡ p ++ tail
       → next + length p ≡ at + length whole → at ≤ next → signedOf whole ≡ signedBy m (numberOf p)
       → Tied (signedOf whole) (signedRead (signedAt s at)) at (at + length whole)
   unfolding signedAt
@@ -63,7 +64,9 @@ module _ (s : List ℕ) (at : ℕ) (tail : List ℕ) (stops : Stops tail) where
       let t = number-tied s next p tail here (stops .digits) in
       rw sign
       (record {
-        whole = form ∙ ap (signedBy m) (t .whole ∙ ap (wholeRead (numberRead (numberAt s next))) end) ∙ sym (signed-whole m (numberAt s next) (at + length whole));
+        whole = form
+            ∙ ap (signedBy m) (t .whole ∙ ap (wholeRead (numberRead (numberAt s next))) end)
+            ∙ sym (signed-whole m (numberAt s next) (at + length whole));
         inside = λ x e. let i = t .inside (x .0 .number, x .1) (signed-place m (numberAt s next) x e) in (omega (arith, i), omega (arith, i));
       })
 
@@ -77,7 +80,8 @@ module _ (s : List ℕ) (at : ℕ) (tail : List ℕ) (stops : Stops tail) where
       byte = first-byte s at ((c ∷ p) ++ tail) here
 
       by-plus : (b : Bool) → eqb c 43 ≡ b → eqb c 45 ≡ false → Tied (signedOf (c ∷ p)) (signedRead (signedAt s at)) at (at + length (c ∷ p))
-      by-plus true e f = signed-by p false (at + 1) (c ∷ p) (rw (byte, f, e) refl) (next-bytes c p here) (omega arith) (omega arith) (rw e refl)
+      by-plus true e f =
+          signed-by p false (at + 1) (c ∷ p) (rw (byte, f, e) refl) (next-bytes c p here) (omega arith) (omega arith) (rw e refl)
       by-plus false e f = signed-by (c ∷ p) false at (c ∷ p) (rw (byte, f, e) refl) here refl (omega arith) (rw (e, f) refl)
 
       by-minus : (b : Bool) → eqb c 45 ≡ b → Tied (signedOf (c ∷ p)) (signedRead (signedAt s at)) at (at + length (c ∷ p))
@@ -114,7 +118,9 @@ shift-read false m h n e = refl
 
 -- the form after a sign
 shiftForm : Bool → List ℕ → Option Shift
-shiftForm m p = cond (eqb (length p) 4 && allOf isDigit p) (some (record { minus = m; hours = decimal 0 (take 2 p); minutes = decimal 0 (drop 2 p) })) none
+shiftForm m p =
+    cond (eqb (length p) 4 && allOf isDigit p) (some (record { minus = m; hours = decimal 0 (take 2 p); minutes = decimal 0 (drop 2 p) }))
+    none
 
 shift-plus : (c : ℕ) (p : List ℕ) → eqb c 43 ≡ true → shiftOf (c ∷ p) ≡ shiftForm false p
 unfolding shiftOf shiftForm
@@ -145,9 +151,12 @@ module _ (s : List ℕ) (at : ℕ) (p tail : List ℕ) (m : Bool) (stops : digit
       (λ b e.
       let l : length p ≡ 4 = omega arith in
       let d : allOf isDigit p ≡ true = sym (count l) ∙ b in
-      let h : decimalAt s (at + 1) 2 ≡ decimal 0 (take 2 p) = ap (λ (n : ℕ). decimalAt s n 2) {x = at + 1} {y = at + 1 + 0} (omega arith) ∙ part-decimal s (at + 1) p tail here 0 2 (omega arith) in
+      let h : decimalAt s (at + 1) 2 ≡ decimal 0 (take 2 p) =
+      ap (λ (n : ℕ). decimalAt s n 2) {x = at + 1} {y = at + 1 + 0} (omega arith) ∙ part-decimal s (at + 1) p tail here 0 2 (omega arith) in
       let n : decimalAt s (at + 3) 2 ≡ decimal 0 (drop 2 p) =
-      ap (λ (n : ℕ). decimalAt s n 2) {x = at + 3} {y = at + 1 + 2} (omega arith) ∙ part-decimal s (at + 1) p tail here 2 2 (omega arith) ∙ ap (decimal 0) (take-all 2 (drop 2 p) (omega (arith, length-drop 2 p))) in
+      ap (λ (n : ℕ). decimalAt s n 2) {x = at + 3} {y = at + 1 + 2} (omega arith)
+      ∙ part-decimal s (at + 1) p tail here 2 2 (omega arith)
+      ∙ ap (decimal 0) (take-all 2 (drop 2 p) (omega (arith, length-drop 2 p))) in
       rw (eq-eqb _ _ l, d, h, n) refl)
       (λ b e. let l : length p ≡ 4 → ⊥ = λ q. e (omega arith) in rw (ne-eqb _ _ l) refl)
       (λ b. by-length (eqb (length p) 4) refl b)
@@ -168,7 +177,8 @@ module _ (s : List ℕ) (at : ℕ) (tail : List ℕ) (stops : Stops tail) where
       byte : getD s at 0 ≡ c
       byte = first-byte s at ((c ∷ p) ++ tail) here
 
-      signed : (m : Bool) → (eqb c 43 || eqb c 45) ≡ true → eqb c 45 ≡ m → shiftOf (c ∷ p) ≡ shiftForm m p → Tied (shiftOf (c ∷ p)) (shiftRead (shiftAt s at)) at (at + suc (length p))
+      signed : (m : Bool) → (eqb c 43 || eqb c 45) ≡ true → eqb c 45 ≡ m → shiftOf (c ∷ p) ≡ shiftForm m p
+          → Tied (shiftOf (c ∷ p)) (shiftRead (shiftAt s at)) at (at + suc (length p))
       signed m e f g =
           rw (g, byte, e, f, shift-read (eqb (digitsIn (drop (at + 1) s)) 4) m (decimalAt s (at + 1) 2) (decimalAt s (at + 3) 2) (at + 5))
           (shift-digits s at p tail m (stops .digits) (next-bytes s at tail stops c p here))
@@ -189,12 +199,14 @@ time-read true y mo d h m e = refl
 time-read false y mo d h m e = refl
 
 -- digits up to a byte that is none
-digits-up-to : (p tail : List ℕ) (n : ℕ) → n < length p → isDigit (getD p n 0) ≡ false → eqb (digitsIn (p ++ tail)) n ≡ allOf isDigit (take n p)
+digits-up-to : (p tail : List ℕ) (n : ℕ) → n < length p → isDigit (getD p n 0) ≡ false
+    → eqb (digitsIn (p ++ tail)) n ≡ allOf isDigit (take n p)
 unfolding digitsIn
 digits-up-to p tail n h e =
     let rest : List ℕ = getD p n 0 ∷ (drop (suc n) p ++ tail) in
     let z : digitsIn rest ≡ 0 = rw (digitsIn, e) refl in
-    let q : p ++ tail ≡ take n p ++ rest = ap (λ (l : List ℕ). l ++ tail) (split-at p n 0 h) ∙ append-assoc (take n p) (getD p n 0 ∷ drop (suc n) p) tail in
+    let q : p ++ tail ≡ take n p ++ rest =
+    ap (λ (l : List ℕ). l ++ tail) (split-at p n 0 h) ∙ append-assoc (take n p) (getD p n 0 ∷ drop (suc n) p) tail in
     rw q (exactly (take n p) rest n z (eq-eqb (length (take n p)) n (omega (arith, length-take n p))))
 
 -- after a time: no digit and no T
@@ -205,7 +217,12 @@ module _ (s : List ℕ) (at : ℕ) (p tail : List ℕ) (stops : digitsIn tail �
   test-whole : length p ≡ 13 → timeTest ≡ allOf isDigit (take 8 p) && (eqb (getD p 8 0) 84 && allOf isDigit (drop 9 p))
   unfolding timeTest
   test-whole l =
-      rw (here, part-byte s at p tail here 8 (omega arith), part-drop s at p tail here 9 (omega arith), exactly (drop 9 p) tail 4 stops (eq-eqb (length (drop 9 p)) 4 (omega (arith, length-drop 9 p))))
+      rw (
+        here,
+        part-byte s at p tail here 8 (omega arith),
+        part-drop s at p tail here 9 (omega arith),
+        exactly (drop 9 p) tail 4 stops (eq-eqb (length (drop 9 p)) 4 (omega (arith, length-drop 9 p))),
+      )
       (by-letter (eqb (getD p 8 0) 84) refl)
     where
       by-letter : (b : Bool) → eqb (getD p 8 0) 84 ≡ b
@@ -221,7 +238,8 @@ module _ (s : List ℕ) (at : ℕ) (p tail : List ℕ) (stops : digitsIn tail �
       let y = both-true (eqb (getD s (at + 8) 0) 84) _ (x .1) in
       let m : 8 ≤ length p = omega (arith, digits-inside s at p tail here stops, eqb-true (digitsIn (drop at s)) 8 (x .0)) in
       let n : length p ≡ 8 → ⊥ = letter (y .0) in
-      let d : digitsIn (drop (at + 9) s) ≤ length (drop 9 p) = digits-inside s (at + 9) (drop 9 p) tail (part-drop s at p tail here 9 (omega arith)) stops in
+      let d : digitsIn (drop (at + 9) s) ≤ length (drop 9 p) =
+      digits-inside s (at + 9) (drop 9 p) tail (part-drop s at p tail here 9 (omega arith)) stops in
       omega (arith, d, length-drop 9 p, eqb-true (digitsIn (drop (at + 9) s)) 4 (y .1))
     where
       letter : eqb (getD s (at + 8) 0) 84 ≡ true → length p ≡ 8 → ⊥
@@ -230,12 +248,16 @@ module _ (s : List ℕ) (at : ℕ) (p tail : List ℕ) (stops : digitsIn tail �
           let g : drop 8 p ≡ [] = drop-of-length-le p {i = 8} (omega arith) in
           let k : at + 8 + 0 ≡ at + 8 = omega arith in
           let q : getD s (at + 8) 0 ≡ getD tail 0 0 =
-          ap (λ (n : ℕ). getD s n 0) (sym k) ∙ sym (getD-drop (at + 8) s 0 0) ∙ ap (λ (l : List ℕ). getD l 0 0) (f ∙ ap (λ (l : List ℕ). l ++ tail) g) in
+          ap (λ (n : ℕ). getD s n 0) (sym k)
+          ∙ sym (getD-drop (at + 8) s 0 0)
+          ∙ ap (λ (l : List ℕ). getD l 0 0) (f ∙ ap (λ (l : List ℕ). l ++ tail) g) in
           let z : _≡_ {A = Bool} true false = sym e ∙ ap (λ (n : ℕ). eqb n 84) q ∙ no-letter in
           let y : _≡_ {A = ℕ} 0 1 = cc in omega arith
 
   timeThere : Time
-  timeThere = record { year = decimalAt s at 4; month = decimalAt s (at + 4) 2; day = decimalAt s (at + 6) 2; hour = decimalAt s (at + 9) 2; minute = decimalAt s (at + 11) 2 }
+  timeThere =
+      record
+      { year = decimalAt s at 4; month = decimalAt s (at + 4) 2; day = decimalAt s (at + 6) 2; hour = decimalAt s (at + 9) 2; minute = decimalAt s (at + 11) 2 }
 
   time-digits : Tied (timeOf p) (cond timeTest (some (timeThere, at + 13)) none) at (at + length p)
   unfolding timeOf timeThere
@@ -244,9 +266,19 @@ module _ (s : List ℕ) (at : ℕ) (p tail : List ℕ) (stops : digitsIn tail �
       (λ b. omega (arith, test-inside b))
       (λ b e.
       let l : length p ≡ 13 = omega arith in
-      let y : decimalAt s at 4 ≡ decimal 0 (take 4 p) = ap (λ (n : ℕ). decimalAt s n 4) {x = at} {y = at + 0} (omega arith) ∙ part-decimal s at p tail here 0 4 (omega arith) in
-      let m : decimalAt s (at + 11) 2 ≡ decimal 0 (drop 11 p) = part-decimal s at p tail here 11 2 (omega arith) ∙ ap (decimal 0) (take-all 2 (drop 11 p) (omega (arith, length-drop 11 p))) in
-      rw (eq-eqb (length p) 13 l, sym (test-whole l) ∙ b, y, part-decimal s at p tail here 4 2 (omega arith), part-decimal s at p tail here 6 2 (omega arith), part-decimal s at p tail here 9 2 (omega arith), m) refl)
+      let y : decimalAt s at 4 ≡ decimal 0 (take 4 p) =
+      ap (λ (n : ℕ). decimalAt s n 4) {x = at} {y = at + 0} (omega arith) ∙ part-decimal s at p tail here 0 4 (omega arith) in
+      let m : decimalAt s (at + 11) 2 ≡ decimal 0 (drop 11 p) =
+      part-decimal s at p tail here 11 2 (omega arith) ∙ ap (decimal 0) (take-all 2 (drop 11 p) (omega (arith, length-drop 11 p))) in
+      rw (
+        eq-eqb (length p) 13 l,
+        sym (test-whole l) ∙ b,
+        y,
+        part-decimal s at p tail here 4 2 (omega arith),
+        part-decimal s at p tail here 6 2 (omega arith),
+        part-decimal s at p tail here 9 2 (omega arith),
+        m,
+      ) refl)
       (λ b e. let l : length p ≡ 13 → ⊥ = λ q. e (omega arith) in rw (ne-eqb (length p) 13 l) refl)
       (λ b. by-length (eqb (length p) 13) refl b)
     where
@@ -257,4 +289,6 @@ module _ (s : List ℕ) (at : ℕ) (p tail : List ℕ) (stops : digitsIn tail �
   pub time-tied : Tied (timeOf p) (timeRead (timeAt s at)) at (at + length p)
   unfolding timeAt timeTest timeThere
   time-tied =
-      rw (time-read timeTest (decimalAt s at 4) (decimalAt s (at + 4) 2) (decimalAt s (at + 6) 2) (decimalAt s (at + 9) 2) (decimalAt s (at + 11) 2) (at + 13)) time-digits
+      rw
+      (time-read timeTest (decimalAt s at 4) (decimalAt s (at + 4) 2) (decimalAt s (at + 6) 2) (decimalAt s (at + 9) 2) (decimalAt s (at + 11) 2) (at + 13))
+      time-digits

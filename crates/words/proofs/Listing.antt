@@ -30,7 +30,10 @@ module _ (s : List ℕ) (at : ℕ) (piece : List ℕ) where
       let k : ℕ = e - at in
       let f : at + k ≡ e = omega arith in
       let g : getD piece k 0 ≡ getD s e 0 =
-      sym (List·getD-append piece tail 0 k (omega (arith, f))) ∙ ap (λ (x : List ℕ). getD x k 0) (sym t) ∙ getD-drop at s k 0 ∙ ap (λ (n : ℕ). getD s n 0) f in
+      sym (List·getD-append piece tail 0 k (omega (arith, f)))
+      ∙ ap (λ (x : List ℕ). getD x k 0) (sym t)
+      ∙ getD-drop at s k 0
+      ∙ ap (λ (n : ℕ). getD s n 0) f in
       rw g at (all k (omega (arith, f)))
 
   module _ (tail : List ℕ) (e : ℕ) (t : drop at s ≡ piece ++ tail) (f : e ≡ at + length piece) where
@@ -38,7 +41,10 @@ module _ (s : List ℕ) (at : ℕ) (piece : List ℕ) where
     pub after-byte : getD s e 0 ≡ getD tail 0 0
     after-byte =
         let z : length piece + 0 ≡ length piece = omega arith in
-        ap (λ (n : ℕ). getD s n 0) f ∙ sym (getD-drop at s (length piece) 0) ∙ ap (λ (x : List ℕ). getD x (length piece) 0) t ∙ first piece tail
+        ap (λ (n : ℕ). getD s n 0) f
+        ∙ sym (getD-drop at s (length piece) 0)
+        ∙ ap (λ (x : List ℕ). getD x (length piece) 0) t
+        ∙ first piece tail
       where
         first : (p t : List ℕ) → getD (p ++ t) (length p) 0 ≡ getD t 0 0
         first [] t = refl
@@ -56,7 +62,8 @@ module _ (s : List ℕ) (at : ℕ) (piece : List ℕ) where
 
 -- ---- the elements' form, one after the other
 module _ {A : Type 0} (form : List ℕ → Option A) where
-  pub each-cons : (p : List ℕ) (ps : List (List ℕ)) (o : Option A) (r : Option (List A)) → form p ≡ o → eachOf form ps ≡ r → eachOf form (p ∷ ps) ≡ consOf o r
+  pub each-cons : (p : List ℕ) (ps : List (List ℕ)) (o : Option A) (r : Option (List A)) → form p ≡ o → eachOf form ps ≡ r
+      → eachOf form (p ∷ ps) ≡ consOf o r
   unfolding eachOf
   each-cons p ps o r e f = ap₂ consOf e f
 
@@ -65,11 +72,14 @@ module _ {A : Type 0} (form : List ℕ → Option A) where
   each-none = refl
 
 -- an element before a list that is tied
-cons-tied : {A : Type 0} (x : A) (o : Option (List A)) (r : Option (List A × ℕ)) (at from end : ℕ) → at ≤ from → Tied o r from end → Tied (consOf (some x) o) (before x r) at end
+cons-tied : {A : Type 0} (x : A) (o : Option (List A)) (r : Option (List A × ℕ)) (at from end : ℕ) → at ≤ from → Tied o r from end
+    → Tied (consOf (some x) o) (before x r) at end
 unfolding consOf
 cons-tied {A} x o r at from end h t = by-cases o r (tied-made (λ (xs : List A). x ∷ xs) o r at from end h t)
   where
-    by-cases : (o : Option (List A)) (r : Option (List A × ℕ)) → Tied (made (λ (xs : List A). x ∷ xs) o) (madeRead (λ (xs : List A). x ∷ xs) r) at end → Tied (consOf (some x) o) (before x r) at end
+    by-cases : (o : Option (List A)) (r : Option (List A × ℕ))
+        → Tied (made (λ (xs : List A). x ∷ xs) o) (madeRead (λ (xs : List A). x ∷ xs) r) at end
+        → Tied (consOf (some x) o) (before x r) at end
     by-cases none none t = t
     by-cases none (some r) t = t
     by-cases (some xs) none t = t
@@ -81,7 +91,8 @@ module _ {A : Type 0} (read : ℕ → Option (A × ℕ)) (separator : ℕ) (s : 
   unfolding listAt
   list-none left at e = rw (listAt, e) refl
 
-  list-last : (left at : ℕ) (r : A × ℕ) → read at ≡ some r → eqb (getD s (r .1) 0) separator ≡ false → listAt read separator s (suc left) at ≡ some (r .0 ∷ [], r .1)
+  list-last : (left at : ℕ) (r : A × ℕ) → read at ≡ some r → eqb (getD s (r .1) 0) separator ≡ false
+      → listAt read separator s (suc left) at ≡ some (r .0 ∷ [], r .1)
   unfolding listAt
   list-last left at r e f = rw (listAt, e, f) refl
 
@@ -91,15 +102,19 @@ module _ {A : Type 0} (read : ℕ → Option (A × ℕ)) (separator : ℕ) (s : 
   list-more left at r e f = rw (listAt, e, eq-eqb _ _ f) refl
 
   -- a single element that was read, tied to a form
-  single : (o : Option (List A)) (r : A × ℕ) (at end : ℕ) → at ≤ r .1 → r .1 ≤ end → (r .1 ≡ end → o ≡ some (r .0 ∷ [])) → ((r .1 ≡ end → ⊥) → o ≡ none) → Tied o (some (r .0 ∷ [], r .1)) at end
-  single o r at end a b all part = tied-by o (r .0 ∷ []) (r .1) at end a true (λ e. b) (λ e. all) (λ e. part) (λ e. let z : _≡_ {A = ℕ} 0 1 = cc in absurd (omega arith))
+  single : (o : Option (List A)) (r : A × ℕ) (at end : ℕ) → at ≤ r .1 → r .1 ≤ end → (r .1 ≡ end → o ≡ some (r .0 ∷ []))
+      → ((r .1 ≡ end → ⊥) → o ≡ none) → Tied o (some (r .0 ∷ [], r .1)) at end
+  single o r at end a b all part =
+      tied-by o (r .0 ∷ []) (r .1) at end a true (λ e. b) (λ e. all) (λ e. part) (λ e. let z : _≡_ {A = ℕ} 0 1 = cc in absurd (omega arith))
 
   -- `Stop`: what may stand after an element; no list stops before its separator
   module _ (form : List ℕ → Option A) (Stop : List ℕ → Type 0) (stop : (rest : List ℕ) → Stop (separator ∷ rest))
-      (tie : (at : ℕ) (p tail : List ℕ) → drop at s ≡ p ++ tail → Stop tail → Tied (form p) (read at) at (at + length p)) (tail : List ℕ) (stops : Stop tail)
+      (tie : (at : ℕ) (p tail : List ℕ) → drop at s ≡ p ++ tail → Stop tail
+      → Tied (form p) (read at) at (at + length p)) (tail : List ℕ) (stops : Stop tail)
       (other : eqb (getD tail 0 0) separator ≡ false) where
     -- the form of the whole list where its first element is not read whole
-    not-whole : (at : ℕ) (q : List ℕ) (others : List (List ℕ)) (r : A × ℕ) → Tied (form q) (some r) at (at + length q) → (r .1 ≡ at + length q → ⊥) → eachOf form (q ∷ others) ≡ none
+    not-whole : (at : ℕ) (q : List ℕ) (others : List (List ℕ)) (r : A × ℕ) → Tied (form q) (some r) at (at + length q)
+        → (r .1 ≡ at + length q → ⊥) → eachOf form (q ∷ others) ≡ none
     unfolding consOf
     not-whole at q others r t n = each-cons form q others none _ (t .whole ∙ whole-part r _ n) refl
 
@@ -115,7 +130,8 @@ module _ {A : Type 0} (read : ℕ → Option (A × ℕ)) (separator : ℕ) (s : 
     no-first : (left at : ℕ) (q : List ℕ) (others : List (List ℕ)) (end : ℕ) → read at ≡ none → Tied (form q) none at (at + length q)
         → Tied (eachOf form (q ∷ others)) (listAt read separator s (suc left) at) at end
     unfolding consOf
-    no-first left at q others end e t = rw (list-none left at e, each-cons form q others none _ (t .whole ∙ whole-none _) refl) (tied-none _ _)
+    no-first left at q others end e t =
+        rw (list-none left at e, each-cons form q others none _ (t .whole ∙ whole-none _) refl) (tied-none _ _)
 
     -- the last element
     last-tied : (left at : ℕ) (q : List ℕ) → drop at s ≡ q ++ tail → Whole separator q
@@ -137,13 +153,17 @@ module _ {A : Type 0} (read : ℕ → Option (A × ℕ)) (separator : ℕ) (s : 
         → Tied (eachOf form (q ∷ pieces separator rest)) (listAt read separator s (suc left) at) at (at + length q + 1 + length rest)
     next-tied left at q rest here whole again none e t = no-first left at q (pieces separator rest) _ e t
     next-tied left at q rest here whole again (some r) e t =
-        by-order (r .1) (at + length q) (λ l. inside left at q (separator ∷ (rest ++ tail)) (pieces separator rest) _ r here whole e t l (omega arith))
+        by-order (r .1) (at + length q)
+        (λ l. inside left at q (separator ∷ (rest ++ tail)) (pieces separator rest) _ r here whole e t l (omega arith))
         (λ g.
         let i = t .inside r refl in
         let m : r .1 ≡ at + length q = omega (arith, i) in
         let n : r .1 + 1 + length rest ≡ at + length q + 1 + length rest = omega arith in
         let a = again (r .1 + 1) (after-rest s at q (separator ∷ (rest ++ tail)) (r .1) here m) in
-        rw (list-more left at r e (after-byte s at q (separator ∷ (rest ++ tail)) (r .1) here m), each-cons form q (pieces separator rest) (some (r .0)) _ (t .whole ∙ whole-all r _ m) refl)
+        rw (
+          list-more left at r e (after-byte s at q (separator ∷ (rest ++ tail)) (r .1) here m),
+          each-cons form q (pieces separator rest) (some (r .0)) _ (t .whole ∙ whole-all r _ m) refl,
+        )
         (cons-tied (r .0) _ _ at (r .1 + 1) _ (omega (arith, i)) (rw n at a)))
 
     list-tied : (left at : ℕ) (p : List ℕ) → drop at s ≡ p ++ tail → length p < left
@@ -151,7 +171,8 @@ module _ {A : Type 0} (read : ℕ → Option (A × ℕ)) (separator : ℕ) (s : 
     list-tied zero at p here h = absurd (omega arith)
     list-tied (suc left) at p here h = by-cut (cut-of separator p) (list-tied left)
       where
-        by-cut : (c : Cut separator p) → ((at : ℕ) (p : List ℕ) → drop at s ≡ p ++ tail → length p < left → Tied (eachOf form (pieces separator p)) (listAt read separator s left at) at (at + length p))
+        by-cut : (c : Cut separator p)
+            → ((at : ℕ) (p : List ℕ) → drop at s ≡ p ++ tail → length p < left → Tied (eachOf form (pieces separator p)) (listAt read separator s left at) at (at + length p))
             → Tied (eachOf form (pieces separator p)) (listAt read separator s (suc left) at) at (at + length p)
         by-cut c again = rw (c .cut) (by-after (c .piece) (c .tail) (c .others) (c .text) (c .whole) (c .after))
           where

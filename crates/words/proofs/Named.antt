@@ -46,17 +46,22 @@ module _ (test : List ℕ → Bool) where
       P : ℕ → ℕ → Type 0
       P k e = Found s at e
 
-      by-start : (b : Bool) → startsWith w (drop at s) ≡ b → Reads P (oneAt ws s at) → Reads P (cond b (some (0, at + length w)) (madeRead suc (oneAt ws s at)))
-      by-start true f again = read-some P 0 (at + length w) (record { word = w; tested = both-true (test w) _ a .0; text = starts-is w (drop at s) f; place = refl })
+      by-start : (b : Bool) → startsWith w (drop at s) ≡ b → Reads P (oneAt ws s at)
+          → Reads P (cond b (some (0, at + length w)) (madeRead suc (oneAt ws s at)))
+      by-start true f again =
+          read-some P 0 (at + length w)
+          (record { word = w; tested = both-true (test w) _ a .0; text = starts-is w (drop at s) f; place = refl })
       by-start false f again = read-made suc P (oneAt ws s at) again
 
   -- a piece that is one of them
-  pub word-tested : (ws : List (List ℕ)) (q : List ℕ) (k : ℕ) → allOf test ws ≡ true → wordOf ws q ≡ some k → (test q ≡ true) × (k < length ws)
+  pub word-tested : (ws : List (List ℕ)) (q : List ℕ) (k : ℕ) → allOf test ws ≡ true → wordOf ws q ≡ some k
+      → (test q ≡ true) × (k < length ws)
   unfolding wordOf
   word-tested [] q k a e = let z : _≡_ {A = ℕ} 0 1 = cc in absurd (omega arith)
   word-tested (w ∷ ws) q k a e = by-same (sameBytes w q) refl (wordOf ws q) refl (λ j. word-tested ws q j (both-true (test w) _ a .1)) e
     where
-      by-same : (b : Bool) → sameBytes w q ≡ b → (o : Option ℕ) → wordOf ws q ≡ o → ((j : ℕ) → wordOf ws q ≡ some j → (test q ≡ true) × (j < length ws)) → cond b (some 0) (made suc o) ≡ some k
+      by-same : (b : Bool) → sameBytes w q ≡ b → (o : Option ℕ) → wordOf ws q ≡ o
+          → ((j : ℕ) → wordOf ws q ≡ some j → (test q ≡ true) × (j < length ws)) → cond b (some 0) (made suc o) ≡ some k
           → (test q ≡ true) × (k < suc (length ws))
       by-same true f o g again e = let z : 0 ≡ k = cc in (rw (same-is w q f) at (both-true (test w) _ a .0), omega arith)
       by-same false f none g again e = let z : _≡_ {A = ℕ} 0 1 = cc in absurd (omega arith)

@@ -33,7 +33,8 @@ pub record Cut (separator : ℕ) (t : List ℕ) : Type 0 where
 
 pub cut-of : (separator : ℕ) (t : List ℕ) → Cut separator t
 unfolding pieces
-cut-of separator [] = record { piece = []; tail = []; others = []; text = refl; cut = refl; after = ended; whole = λ k l. absurd (omega arith) }
+cut-of separator [] =
+    record { piece = []; tail = []; others = []; text = refl; cut = refl; after = ended; whole = λ k l. absurd (omega arith) }
 cut-of separator (c ∷ cs) = by-byte (eqb c separator) refl (cut-of separator cs)
   where
     by-byte : (b : Bool) → eqb c separator ≡ b → Cut separator cs → Cut separator (c ∷ cs)

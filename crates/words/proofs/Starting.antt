@@ -29,10 +29,12 @@ module _ (w s : List ℕ) (at i : ℕ) where
   unfolding startsWith
   word-short h k = rw (drop-cons w i 0, drop-of-length-le s) refl
 
-  pub word-differs : i < length w → at + i < length s → (getD s (at + i) 0 ≡ getD w i 0 → ⊥) → startsWith (drop i w) (drop (at + i) s) ≡ false
+  pub word-differs : i < length w → at + i < length s → (getD s (at + i) 0 ≡ getD w i 0 → ⊥)
+      → startsWith (drop i w) (drop (at + i) s) ≡ false
   word-differs h k d = rw (drop-cons w i 0, drop-cons s (at + i) 0) (cons-differs _ _ d)
 
-  pub word-same : i < length w → at + i < length s → getD s (at + i) 0 ≡ getD w i 0 → startsWith (drop i w) (drop (at + i) s) ≡ startsWith (drop (i + 1) w) (drop (at + (i + 1)) s)
+  pub word-same : i < length w → at + i < length s → getD s (at + i) 0 ≡ getD w i 0
+      → startsWith (drop i w) (drop (at + i) s) ≡ startsWith (drop (i + 1) w) (drop (at + (i + 1)) s)
   word-same h k e =
       rw (drop-cons w i 0, drop-cons s (at + i) 0)
       (cons-same _ _ e ∙ ap₂ (λ (m n : ℕ). startsWith (drop m w) (drop n s)) {x = suc i} {y = i + 1} {u = suc (at + i)} {v = at + (i + 1)} (omega arith) (omega arith))
@@ -47,7 +49,9 @@ module _ (w s : List ℕ) (at : ℕ) where
   unfolding wordAt placeIn
   word-is c e = by-start (startsWith w (drop at s)) refl e
     where
-      by-start : (b : Bool) → startsWith w (drop at s) ≡ b → cond (startsWith w (drop at s)) (Worded.Is (cursor (at + length w))) Worded.Not ≡ Worded.Is c → (startsWith w (drop at s) ≡ true) × (c ≡ cursor (at + length w))
+      by-start : (b : Bool) → startsWith w (drop at s) ≡ b
+          → cond (startsWith w (drop at s)) (Worded.Is (cursor (at + length w))) Worded.Not ≡ Worded.Is c
+          → (startsWith w (drop at s) ≡ true) × (c ≡ cursor (at + length w))
       by-start true f e = (f, sym (ap placeIn (rw f at e)))
       by-start false f e = let g : Worded.Not ≡ Worded.Is c = rw f at e in let z : _≡_ {A = ℕ} 0 1 = cc in absurd (omega arith)
 
@@ -55,6 +59,8 @@ module _ (w s : List ℕ) (at : ℕ) where
   unfolding wordAt
   word-not e = by-start (startsWith w (drop at s)) refl e
     where
-      by-start : (b : Bool) → startsWith w (drop at s) ≡ b → cond (startsWith w (drop at s)) (Worded.Is (cursor (at + length w))) Worded.Not ≡ Worded.Not → startsWith w (drop at s) ≡ false
-      by-start true f e = let g : Worded.Is (cursor (at + length w)) ≡ Worded.Not = rw f at e in let z : _≡_ {A = ℕ} 0 1 = cc in absurd (omega arith)
+      by-start : (b : Bool) → startsWith w (drop at s) ≡ b
+          → cond (startsWith w (drop at s)) (Worded.Is (cursor (at + length w))) Worded.Not ≡ Worded.Not → startsWith w (drop at s) ≡ false
+      by-start true f e =
+          let g : Worded.Is (cursor (at + length w)) ≡ Worded.Not = rw f at e in let z : _≡_ {A = ℕ} 0 1 = cc in absurd (omega arith)
       by-start false f e = f

@@ -22,7 +22,8 @@ unfolding digitsIn
 all-digits [] tail a e = e
 all-digits (c ∷ p) tail a e = by-digit (isDigit c) refl a (all-digits p tail)
   where
-    by-digit : (b : Bool) → isDigit c ≡ b → (isDigit c && allOf isDigit p) ≡ true → (allOf isDigit p ≡ true → digitsIn tail ≡ 0 → digitsIn (p ++ tail) ≡ length p)
+    by-digit : (b : Bool) → isDigit c ≡ b → (isDigit c && allOf isDigit p) ≡ true
+        → (allOf isDigit p ≡ true → digitsIn tail ≡ 0 → digitsIn (p ++ tail) ≡ length p)
         → digitsIn (c ∷ (p ++ tail)) ≡ suc (length p)
     by-digit true f h r = rw (digitsIn, f) (ap suc (r (rw f at h) e))
     by-digit false f h r = let z : _≡_ {A = Bool} false true = rw f at h in let y : _≡_ {A = ℕ} 0 1 = cc in absurd (omega arith)
@@ -32,7 +33,8 @@ unfolding digitsIn
 some-digits [] tail a = let y : _≡_ {A = ℕ} 0 1 = cc in absurd (omega arith)
 some-digits (c ∷ p) tail a = by-digit (isDigit c) refl a (some-digits p tail)
   where
-    by-digit : (b : Bool) → isDigit c ≡ b → (isDigit c && allOf isDigit p) ≡ false → (allOf isDigit p ≡ false → digitsIn (p ++ tail) < length p)
+    by-digit : (b : Bool) → isDigit c ≡ b → (isDigit c && allOf isDigit p) ≡ false
+        → (allOf isDigit p ≡ false → digitsIn (p ++ tail) < length p)
         → digitsIn (c ∷ (p ++ tail)) < suc (length p)
     by-digit true f h r = rw (digitsIn, f) (omega (arith, r (rw f at h)))
     by-digit false f h r = rw (digitsIn, f) (omega arith)
@@ -74,7 +76,8 @@ number-read : (b : Bool) (v e : ℕ) → numberRead (cond b (Number.Is v (cursor
 number-read true v e = refl
 number-read false v e = refl
 
-pub read-place : {A : Type 0} (b : Bool) (v : A) (r : A × ℕ) (e at end : ℕ) → at ≤ e → e ≤ end → cond {A = Option (A × ℕ)} b (some (v, e)) none ≡ some r → (at ≤ r .1) × (r .1 ≤ end)
+pub read-place : {A : Type 0} (b : Bool) (v : A) (r : A × ℕ) (e at end : ℕ) → at ≤ e → e ≤ end
+    → cond {A = Option (A × ℕ)} b (some (v, e)) none ≡ some r → (at ≤ r .1) × (r .1 ≤ end)
 read-place {A} true v r e at end g h q = (omega (arith, ap placeOf q), omega (arith, ap placeOf q))
   where
     placeOf : Option (A × ℕ) → ℕ
@@ -105,7 +108,8 @@ abbrev pub made : {A B : Type 0} → (A → B) → Option A → Option B
 made f none = none
 made f (some a) = some (f a)
 
-pub tied-made : {A B : Type 0} (f : A → B) (o : Option A) (r : Option (A × ℕ)) (at from end : ℕ) → at ≤ from → Tied o r from end → Tied (made f o) (madeRead f r) at end
+pub tied-made : {A B : Type 0} (f : A → B) (o : Option A) (r : Option (A × ℕ)) (at from end : ℕ) → at ≤ from → Tied o r from end
+    → Tied (made f o) (madeRead f r) at end
 tied-made f o none at from end h t = rw (t .whole ∙ whole-none end) (tied-none at end)
 tied-made {A} {B} f o (some r) at from end h t =
     let i = t .inside r refl in
@@ -121,7 +125,8 @@ tied-made {A} {B} f o (some r) at from end h t =
 
 -- a reader that takes v up to e where a test holds
 module _ {A : Type 0} (form : Option A) (v : A) (e at end : ℕ) (low : at ≤ e) where
-  pub tied-by : (b : Bool) → (b ≡ true → e ≤ end) → (b ≡ true → e ≡ end → form ≡ some v) → (b ≡ true → (e ≡ end → ⊥) → form ≡ none) → (b ≡ false → form ≡ none)
+  pub tied-by : (b : Bool) → (b ≡ true → e ≤ end) → (b ≡ true → e ≡ end → form ≡ some v) → (b ≡ true → (e ≡ end → ⊥) → form ≡ none)
+      → (b ≡ false → form ≡ none)
       → Tied form (cond b (some (v, e)) none) at end
   tied-by true high all part not =
       record {
@@ -153,7 +158,8 @@ module _ (s : List ℕ) (at : ℕ) (p tail : List ℕ) (here : drop at s ≡ p +
       by-digits true a =
           let n : digitsIn (drop at s) ≡ length p = ap digitsIn here ∙ all-digits p tail a stops in
           let d : take (length p) (drop at s) ≡ p = ap (take (length p)) here ∙ take-append-seam p tail in
-          rw (a, and-true, n, d, number-read (within 1 4 (length p)) (decimal 0 p) (at + length p)) (sym (read-whole (within 1 4 (length p)) (decimal 0 p) (at + length p)))
+          rw (a, and-true, n, d, number-read (within 1 4 (length p)) (decimal 0 p) (at + length p))
+          (sym (read-whole (within 1 4 (length p)) (decimal 0 p) (at + length p)))
       by-digits false a =
           let n : digitsIn (drop at s) < length p = rw here (some-digits p tail a) in
           rw (a, and-false, number-read (within 1 4 (digitsIn (drop at s))) _ (at + digitsIn (drop at s)))

@@ -24,7 +24,8 @@ module _ (t : Time) where
   unfolding localMinute minuteIn
   time-told m e = by-range (timeInRange (timeAs t)) refl e
     where
-      by-range : (b : Bool) → timeInRange (timeAs t) ≡ b → Minute.Is m ≡ cond b (Minute.Is (minuteOf (timeAs t))) Minute.Outside → (timeInRange (timeAs t) ≡ true) × (minuteOf (timeAs t) ≡ m)
+      by-range : (b : Bool) → timeInRange (timeAs t) ≡ b → Minute.Is m ≡ cond b (Minute.Is (minuteOf (timeAs t))) Minute.Outside
+          → (timeInRange (timeAs t) ≡ true) × (minuteOf (timeAs t) ≡ m)
       by-range true f e = (f, sym (ap minuteIn e))
       by-range false f e = let z : _≡_ {A = ℕ} 0 1 = cc in absurd (omega arith)
 
@@ -32,7 +33,8 @@ module _ (t : Time) where
   unfolding localMinute
   time-outside e = by-range (timeInRange (timeAs t)) refl e
     where
-      by-range : (b : Bool) → timeInRange (timeAs t) ≡ b → Minute.Outside ≡ cond b (Minute.Is (minuteOf (timeAs t))) Minute.Outside → timeInRange (timeAs t) ≡ false
+      by-range : (b : Bool) → timeInRange (timeAs t) ≡ b → Minute.Outside ≡ cond b (Minute.Is (minuteOf (timeAs t))) Minute.Outside
+          → timeInRange (timeAs t) ≡ false
       by-range true f e = let z : _≡_ {A = ℕ} 0 1 = cc in absurd (omega arith)
       by-range false f e = f
 
@@ -41,7 +43,8 @@ module _ (s : Shift) where
   unfolding offsetFrom offsetIn
   shift-told o e = by-range (shiftInRange (shiftAs s)) refl e
     where
-      by-range : (b : Bool) → shiftInRange (shiftAs s) ≡ b → Offset.Is o ≡ cond b (Offset.Is (offsetOfShift (shiftAs s))) Offset.Outside → (shiftInRange (shiftAs s) ≡ true) × (offsetOfShift (shiftAs s) ≡ o)
+      by-range : (b : Bool) → shiftInRange (shiftAs s) ≡ b → Offset.Is o ≡ cond b (Offset.Is (offsetOfShift (shiftAs s))) Offset.Outside
+          → (shiftInRange (shiftAs s) ≡ true) × (offsetOfShift (shiftAs s) ≡ o)
       by-range true f e = (f, sym (ap offsetIn e))
       by-range false f e = let z : _≡_ {A = ℕ} 0 1 = cc in absurd (omega arith)
 
@@ -49,6 +52,7 @@ module _ (s : Shift) where
   unfolding offsetFrom
   shift-outside e = by-range (shiftInRange (shiftAs s)) refl e
     where
-      by-range : (b : Bool) → shiftInRange (shiftAs s) ≡ b → Offset.Outside ≡ cond b (Offset.Is (offsetOfShift (shiftAs s))) Offset.Outside → shiftInRange (shiftAs s) ≡ false
+      by-range : (b : Bool) → shiftInRange (shiftAs s) ≡ b → Offset.Outside ≡ cond b (Offset.Is (offsetOfShift (shiftAs s))) Offset.Outside
+          → shiftInRange (shiftAs s) ≡ false
       by-range true f e = let z : _≡_ {A = ℕ} 0 1 = cc in absurd (omega arith)
       by-range false f e = f

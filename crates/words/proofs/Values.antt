@@ -39,7 +39,8 @@ module _ (t : Time) where
     years : (2000 ≤ t .year) × (t .year ≤ 2099)
     years = within-range 2000 2099 (t .year) y
 
-    by-date : (b : Bool) → date ≡ b → (minuteAs t ≡ cond b (Minute.Is (minuteOf t)) Minute.Outside) × (dayOfDate (t .year) (t .month) (t .day) ≡ cond b (Day.Is (dayOf (t .year) (t .month) (t .day))) Day.Outside)
+    by-date : (b : Bool) → date ≡ b
+        → (minuteAs t ≡ cond b (Minute.Is (minuteOf t)) Minute.Outside) × (dayOfDate (t .year) (t .month) (t .day) ≡ cond b (Day.Is (dayOf (t .year) (t .month) (t .day))) Day.Outside)
     unfolding timeInRange date dayOfDate validDate
     by-date true e =
         (rw (y, e, le-leb (t .hour) 23 h, le-leb (t .minute) 59 n) refl, rw (le-leb 1 (t .year) (omega (arith, years)), le-leb (t .year) 9999 (omega (arith, years)), e) refl)
@@ -63,7 +64,8 @@ module _ (t : Time) where
     unfolding date minuteOf dayIn
     date-is day g = by-cases date refl
       where
-        by-cases : (b : Bool) → date ≡ b → (minuteAs t ≡ Minute.Is (dayMinutes * (day - windowFirst) + (60 * t .hour + t .minute))) × ((windowFirst ≤ day) × (day < windowFirst + windowDays))
+        by-cases : (b : Bool) → date ≡ b
+            → (minuteAs t ≡ Minute.Is (dayMinutes * (day - windowFirst) + (60 * t .hour + t .minute))) × ((windowFirst ≤ day) × (day < windowFirst + windowDays))
         by-cases true e =
             let d : day ≡ dayOf (t .year) (t .month) (t .day) = ap dayIn (g ∙ by-date true e .1) in
             let b = within-range 1 (monthLength (leapYear (t .year)) (t .month)) (t .day) e in
@@ -77,7 +79,8 @@ module _ (s : Shift) where
   unfolding shiftInRange shiftMinutes
   hours-outside h = by-sign (s .minus)
     where
-      by-sign : (m : Bool) → cond (leb (s .minutes) 59 && cond m (within 1 720 (60 * s .hours + s .minutes)) (leb (60 * s .hours + s .minutes) 840)) (Offset.Is (offsetOfShift s)) Offset.Outside ≡ Offset.Outside
+      by-sign : (m : Bool)
+          → cond (leb (s .minutes) 59 && cond m (within 1 720 (60 * s .hours + s .minutes)) (leb (60 * s .hours + s .minutes) 840)) (Offset.Is (offsetOfShift s)) Offset.Outside ≡ Offset.Outside
       by-sign true = simp (lt-leb (60 * s .hours + s .minutes) 720 (omega arith), and-false)
       by-sign false = simp (lt-leb (60 * s .hours + s .minutes) 840 (omega arith), and-false)
 
@@ -86,7 +89,8 @@ module _ (s : Shift) where
   minutes-outside h = simp (lt-leb (s .minutes) 59 h)
 
   module _ (h : s .minutes ≤ 59) where
-    pub behind : s .minus ≡ true → (b : Bool) → within 1 720 (60 * s .hours + s .minutes) ≡ b → offsetAs s ≡ cond b (Offset.Is (bias - (60 * s .hours + s .minutes))) Offset.Outside
+    pub behind : s .minus ≡ true → (b : Bool) → within 1 720 (60 * s .hours + s .minutes) ≡ b
+        → offsetAs s ≡ cond b (Offset.Is (bias - (60 * s .hours + s .minutes))) Offset.Outside
     unfolding shiftInRange shiftMinutes offsetOfShift
     behind m b e = rw (m, le-leb (s .minutes) 59 h, e) refl
 

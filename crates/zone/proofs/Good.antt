@@ -33,7 +33,8 @@ pub record GoodHead (low offset : ℕ) (t : Transition) (ts : List Transition) :
   pub change : Within 1 180 (apart offset (t .offset))
   pub rest : T (transitionsGood (t .at + 2880) (t .offset) ts)
 
-pub good-head : (low offset : ℕ) (t : Transition) (ts : List Transition) → T (transitionsGood low offset (t ∷ ts)) → GoodHead low offset t ts
+pub good-head : (low offset : ℕ) (t : Transition) (ts : List Transition) → T (transitionsGood low offset (t ∷ ts))
+    → GoodHead low offset t ts
 unfolding transitionsGood underLimits
 good-head low offset t ts g =
     let a = right (within 1440 52597439 (t .at)) _ g in
@@ -63,11 +64,13 @@ unfolding offsetFrom
 offset-until low offset t ts g i b = rw (lt-leb _ _ b, offsetFrom)
     (offset-before (t .at + 2880) (t .offset) offset ts i (good-head low offset t ts g .rest) (omega arith))
 
-pub offset-since : (offset : ℕ) (t : Transition) (ts : List Transition) (i : ℕ) → t .at ≤ i → offsetFrom offset (t ∷ ts) i ≡ offsetFrom (t .offset) ts i
+pub offset-since : (offset : ℕ) (t : Transition) (ts : List Transition) (i : ℕ) → t .at ≤ i
+    → offsetFrom offset (t ∷ ts) i ≡ offsetFrom (t .offset) ts i
 unfolding offsetFrom
 offset-since offset t ts i b = rw (le-leb _ _ b, offsetFrom) refl
 
-pub offset-passed-over : (offset : ℕ) (t : Transition) (ts : List Transition) (i : ℕ) → i < t .at → offsetFrom offset (t ∷ ts) i ≡ offsetFrom offset ts i
+pub offset-passed-over : (offset : ℕ) (t : Transition) (ts : List Transition) (i : ℕ) → i < t .at
+    → offsetFrom offset (t ∷ ts) i ≡ offsetFrom offset ts i
 unfolding offsetFrom
 offset-passed-over offset t ts i b = rw (lt-leb _ _ b, offsetFrom) refl
 
@@ -100,7 +103,8 @@ pub record GoodZone (z : Offsets) : Type 0 where
 pub good-zone : (z : Offsets) → zoneGood z ≡ true → GoodZone z
 unfolding zoneGood
 good-zone z e =
-    let g : T (offsetInRange (z .first) && (leb (length (z .changes)) 32 && transitionsGood 0 (z .first) (z .changes))) = subst T (sym e) tt in
+    let g : T (offsetInRange (z .first) && (leb (length (z .changes)) 32 && transitionsGood 0 (z .first) (z .changes))) =
+    subst T (sym e) tt in
     let a = right (offsetInRange (z .first)) _ g in
     record {
       range = within-holds _ _ _ (left (offsetInRange (z .first)) _ g);

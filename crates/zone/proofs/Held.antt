@@ -55,7 +55,9 @@ module _ (z : Zone) (passed : Passed z) where
 
   pub held-front : offsetsOf z .changes ≡ take (min (z .count) 32) (z .changes)
   unfolding offsetsOf
-  held-front = ap (λ (l : List Transition). take (z .count) l) (sym (take-all 32 (z .changes) (omega (arith, whole)))) ∙ take-both (z .count) 32 (z .changes)
+  held-front =
+      ap (λ (l : List Transition). take (z .count) l) (sym (take-all 32 (z .changes) (omega (arith, whole))))
+      ∙ take-both (z .count) 32 (z .changes)
 
   held-take : (k : ℕ) → take k (offsetsOf z .changes) ≡ take (min k (min (z .count) 32)) (z .changes)
   held-take k = ap (λ (l : List Transition). take k l) held-front ∙ take-both k (min (z .count) 32) (z .changes)
@@ -91,6 +93,7 @@ module _ (z : Zone) (passed : Passed z) where
   held-over k l = drop-of-length-le (offsetsOf z .changes) {i = k} (omega (arith, held-length))
 
   -- the end of stretch k
-  pub held-end : (k : ℕ) → k < min (z .count) 32 → endIn (offsetsOf z .first) (offsetsOf z .changes) k ≡ boundary (stretchOffset (offsetsOf z) k) (heldAt z k)
+  pub held-end : (k : ℕ) → k < min (z .count) 32
+      → endIn (offsetsOf z .first) (offsetsOf z .changes) k ≡ boundary (stretchOffset (offsetsOf z) k) (heldAt z k)
   unfolding stretchOffset
   held-end k l = rw (← held-at k l) (end-is (offsetsOf z .first) (offsetsOf z .changes) k _ (omega (arith, held-length)))

@@ -79,7 +79,8 @@ module _ {M : Type 1} (𝓤 : URA M) (H : Heap 𝓤) (A : Atoms 𝓤) (W : Given
   lay n ys v b o is =
       qed W (‵ (fat fullShare (tyArray T′.mir n) b o v) ∷ []) ∵
       use1 W (‵ (cellAt fullShare (Array R n .mir) (v ∷ []) b o)) (W .laws .at-raw fullShare (tyArray T′.mir n) b o v) $
-      owned ! (Array R n) (Is (Array R n)) (array-makes 𝓤 H A W R (LL.makes T.the-type T′.the-plain 𝓤 H A) n) ys (v ∷ []) is $ move ! (1 ∷ 0 ∷ []) $ fjoin ! $
+      owned ! (Array R n) (Is (Array R n)) (array-makes 𝓤 H A W R (LL.makes T.the-type T′.the-plain 𝓤 H A) n) ys (v ∷ []) is $ move !
+      (1 ∷ 0 ∷ []) $ fjoin ! $
       fpack ! (List Val) (λ vs. fsep (cellAt fullShare (Array R n .mir) vs b o) (Array R n .own ys vs)) (v ∷ []) $
       use1 W (‵ (arr-parts (shares R) n .part fullShare ys b o)) (array-apart 𝓤 H A W R fullShare tt n ys b o) $ fsplit ! $ drop ! $ done !
 
@@ -90,6 +91,7 @@ module _ {M : Type 1} (𝓤 : URA M) (H : Heap 𝓤) (A : Atoms 𝓤) (W : Given
       let v = only (array-vals vals ys) in
       qed W (‵ (row R fullShare ys b o) ∷ []) ∵ feqI ! ℕ (length ys) n l $ fjoin ! $
       use1 W (‵ (partAt (Array R n) fullShare ys b o)) (array-whole 𝓤 H A W R fullShare n ys b o) $ fpick ! (λ vs. fsplit ! $
-      spelt ! (Array R n) (Is (Array R n)) (shows 𝓤 H A (Array R n)) (array-vals vals) (array-tells R vals (LL.tells T.the-type T′.the-laws) n) fullShare ys vs b o $
+      spelt ! (Array R n) (Is (Array R n)) (shows 𝓤 H A (Array R n)) (array-vals vals)
+      (array-tells R vals (LL.tells T.the-type T′.the-laws) n) fullShare ys vs b o $
       use1 W (‵ (fat fullShare (tyArray T′.mir n) b o v)) (W .laws .raw-at fullShare (tyArray T′.mir n) b o v) $
       keep ! (0 ∷ []) $ show ! (λ (v : Val). H .at fullShare (tyArray T′.mir n) b o v) v $ done !)

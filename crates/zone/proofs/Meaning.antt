@@ -17,7 +17,8 @@ use Rattle.zone.proofs.Good.{by-order, Within, GoodHead, good-head, off
 abbrev pub instantIn : ℕ → List Transition → ℕ → ℕ
 instantIn offset ts m = m + 2880 - offsetAfter offset (take (stretchIn offset ts m) ts)
 
-pub instant-until : (offset : ℕ) (t : Transition) (ts : List Transition) (m : ℕ) → m + 2880 < split offset t → instantIn offset (t ∷ ts) m ≡ m + 2880 - offset
+pub instant-until : (offset : ℕ) (t : Transition) (ts : List Transition) (m : ℕ) → m + 2880 < split offset t
+    → instantIn offset (t ∷ ts) m ≡ m + 2880 - offset
 unfolding stretchIn offsetAfter
 instant-until offset t ts m l = rw (lt-leb (split offset t) (m + 2880) l, stretchIn) refl
 
@@ -105,7 +106,8 @@ module _ (low offset : ℕ) (r : Within 720 2280 offset) (t : Transition) (ts : 
   -- a minute of a stretch after the transition does not become an instant before it
   pub instant-after : (s : ℕ) → split offset t ≤ m + 2880 → Becomes (t .offset) ts m s → t .at ≤ s
   instant-after s f d =
-      by-order s (t .at) (λ n. absurd (omega (arith, d .shown, offset-before (t .at + 2880) (t .offset) (t .offset) ts s (h .rest) (omega arith))))
+      by-order s (t .at)
+      (λ n. absurd (omega (arith, d .shown, offset-before (t .at + 2880) (t .offset) (t .offset) ts s (h .rest) (omega arith))))
       (λ n. n)
 
   beyond : (s : ℕ) → split offset t ≤ m + 2880 → Becomes (t .offset) ts m s → Becomes offset (t ∷ ts) m s
@@ -121,7 +123,8 @@ module _ (low offset : ℕ) (r : Within 720 2280 offset) (t : Transition) (ts : 
         later = λ i k. omega (arith, d .later i k, offset-since offset t ts i (omega arith));
         missing = λ k i q. by-order i (t .at) (λ n. omega (arith, offset-until low offset t ts g i n))
             (λ n. d .missing (omega (arith, e)) i (omega (arith, offset-since offset t ts i n)));
-        gap = λ k. rw (le-leb (t .at + offset) (m + 2880) (omega arith), le-ltb (m + 2880) (t .at + t .offset) (omega arith), gapInstant) (d .gap (omega (arith, e)));
+        gap = λ k. rw (le-leb (t .at + offset) (m + 2880) (omega arith), le-ltb (m + 2880) (t .at + t .offset) (omega arith), gapInstant)
+            (d .gap (omega (arith, e)));
       }
 
 pub becomes : (low offset : ℕ) (ts : List Transition) (m : ℕ)

@@ -26,7 +26,8 @@ not-yet low offset x (t ∷ ts) i g l =
     let b : i < t .at = omega (arith, h .after) in
     rw (lt-leb _ _ b, secondPassIn) (not-yet (t .at + 2880) (t .offset) (t .offset) ts i (h .rest) (omega arith))
 
-passes : (low offset : ℕ) (ts : List Transition) (i m : ℕ) → T (transitionsGood low offset ts) → Within 720 2280 offset → i + offsetFrom offset ts i ≡ m + 2880
+passes : (low offset : ℕ) (ts : List Transition) (i m : ℕ) → T (transitionsGood low offset ts) → Within 720 2280 offset
+    → i + offsetFrom offset ts i ≡ m + 2880
     → Pass (secondPassIn offset ts i) (instantIn offset ts m) i
 unfolding secondPassIn offsetFrom stretchIn offsetAfter
 passes low offset [] i m g r e = omega arith
@@ -88,7 +89,8 @@ module _ (z : Offsets) (good : zoneGood z ≡ true) where
   -- a minute that is shown becomes the first instant that shows it
   shown-pass : (m i : ℕ) → i + offsetAt z i ≡ m + 2880 → Pass (secondPass z i) (instantOf z m) i
   unfolding offsetAt secondPass stretchInstant stretchOffset stretchOf
-  shown-pass m i e = rw (instant-by-stretch z good m) (passes 0 (z .first) (z .changes) i m (good-zone z good .changes) (good-zone z good .range) e)
+  shown-pass m i e =
+      rw (instant-by-stretch z good m) (passes 0 (z .first) (z .changes) i m (good-zone z good .changes) (good-zone z good .range) e)
 
   pub first-pass : (m i : ℕ) → i + offsetAt z i ≡ m + 2880 → secondPass z i ≡ false → instantOf z m ≡ i
   first-pass m i e f = rw f at (shown-pass m i e)

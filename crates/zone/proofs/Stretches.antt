@@ -16,7 +16,8 @@ use Rattle.zone.proofs.Good.{by-order, Within, good-head, GoodZone, goo
 use Rattle.zone.proofs.Meaning.{instantIn, instant-until, instant-since, becomes, instant-after, instant-by-stretch}
 
 -- ---- transitions after an offset
-pub stretch-until : (offset : ℕ) (t : Transition) (ts : List Transition) (m : ℕ) → m + 2880 < split offset t → stretchIn offset (t ∷ ts) m ≡ 0
+pub stretch-until : (offset : ℕ) (t : Transition) (ts : List Transition) (m : ℕ) → m + 2880 < split offset t
+    → stretchIn offset (t ∷ ts) m ≡ 0
 unfolding stretchIn
 stretch-until offset t ts m l = rw (lt-leb (split offset t) (m + 2880) l, stretchIn) refl
 
@@ -46,7 +47,8 @@ ended offset (t ∷ ts) m (suc k) l =
     (λ n. ended (t .offset) ts m k (omega (arith, stretch-since offset t ts m n)))
 
 -- a minute before the end of a stretch is before the ends of those after it
-still-before : (low offset : ℕ) (ts : List Transition) (m : ℕ) → T (transitionsGood low offset ts) → m + 2880 < low + offset → stretchIn offset ts m ≡ 0
+still-before : (low offset : ℕ) (ts : List Transition) (m : ℕ) → T (transitionsGood low offset ts) → m + 2880 < low + offset
+    → stretchIn offset ts m ≡ 0
 unfolding stretchIn
 still-before low offset [] m g l = refl
 still-before low offset (t ∷ ts) m g l = stretch-until offset t ts m (omega (arith, good-head low offset t ts g .after))
@@ -88,7 +90,8 @@ end-long low offset [] k g l = omega arith
 end-long low offset (t ∷ []) zero g l = omega arith
 end-long low offset (t ∷ u ∷ ts) zero g l =
     let h = good-head low offset t (u ∷ ts) g in
-    clipped (split offset t) (split (t .offset) u) (omega (arith, h .change .upto, good-head (t .at + 2880) (t .offset) u ts (h .rest) .after)) l
+    clipped (split offset t) (split (t .offset) u)
+    (omega (arith, h .change .upto, good-head (t .at + 2880) (t .offset) u ts (h .rest) .after)) l
 end-long low offset (t ∷ ts) (suc k) g l = end-long (t .at + 2880) (t .offset) ts k (good-head low offset t ts g .rest) l
 
 bounded : (offset : ℕ) (ts : List Transition) (m : ℕ) → stretchIn offset ts m ≤ length ts
@@ -210,7 +213,8 @@ module _ (z : Offsets) (good : zoneGood z ≡ true) where
   -- a local minute is in one stretch only
   pub the-stretch : (k m : ℕ) → InStretch z k m → k ≡ stretchOf z m
   the-stretch k m s =
-      by-order (stretchOf z m) k (λ l. absurd (omega (arith, s .from, s .past, stretch-within z (k + 1), stretch-ahead k m (omega (arith, s .past, stretch-within z (k + 1))) l)))
+      by-order (stretchOf z m) k
+      (λ l. absurd (omega (arith, s .from, s .past, stretch-within z (k + 1), stretch-ahead k m (omega (arith, s .past, stretch-within z (k + 1))) l)))
       (λ l.
       by-order k (stretchOf z m) (λ b. absurd (omega (arith, s .past, stretch-started z (k + 1) m (omega arith))))
       (λ b. omega arith))
@@ -270,7 +274,8 @@ module _ (z : Offsets) (good : zoneGood z ≡ true) where
   stretch-overlap j k m n a b l o =
       let e : k ≡ j + 1 = by-order (j + 1) k (λ f. absurd (omega (arith, stretch-far j k m n a b f))) (λ f. omega arith) in
       let p : m < n = omega (arith, a .past, b .from, ap (stretchFrom z) e) in
-      let s : instantOf z m + stretchOffset z j < instantOf z n + stretchOffset z k = omega (arith, stretch-instant j m a, stretch-instant k n b) in
+      let s : instantOf z m + stretchOffset z j < instantOf z n + stretchOffset z k =
+      omega (arith, stretch-instant j m a, stretch-instant k n b) in
       record { next = e; gap = omega arith; short = s }
 
   -- a later minute becomes an instant at most 179 minutes before

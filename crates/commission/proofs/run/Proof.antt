@@ -43,22 +43,30 @@ returns-2 c = search needs
 
 -- how many bytes came: of the sheet, and behind it
 sheet-is : (c : tie.After-read) → c .read .given .0 .0 ≤ length (c .before .before .before .before .fill .last .0)
-sheet-is c = counted (c .before .before .before .before .fill .result) (c .read .given .0 .0) (c .read .given .1) (length (c .before .before .before .before .fill .last .0)) (c .before .before .before .before .fill .ensures)
+sheet-is c =
+    counted (c .before .before .before .before .fill .result) (c .read .given .0 .0) (c .read .given .1)
+    (length (c .before .before .before .before .fill .last .0)) (c .before .before .before .before .fill .ensures)
 
 more-is : (c : tie.After-past2) → c .past2 .given .0 .0 ≤ length (c .before .before .before .before .past .last .1 .0)
-more-is c = counted (c .before .before .before .before .past .result) (c .past2 .given .0 .0) (c .past2 .given .1) (length (c .before .before .before .before .past .last .1 .0)) (c .before .before .before .before .past .ensures .0)
+more-is c =
+    counted (c .before .before .before .before .past .result) (c .past2 .given .0 .0) (c .past2 .given .1)
+    (length (c .before .before .before .before .past .last .1 .0)) (c .before .before .before .before .past .ensures .0)
 
 slice-reshare-prefix-give : tie.Need-slice-reshare-prefix-give
 slice-reshare-prefix-give c = sheet-is (c .before .before .before .before .before .before .before .before)
 
 slice-aggregate-give : tie.Need-slice-aggregate-give
-slice-aggregate-give c = sym (length-take-le (c .before .before .before .before .before .before .before .before .before .read .given .0 .0) (c .before .before .before .before .before .before .before .before .before .before .before .before .before .fill .last .0) (sheet-is (c .before .before .before .before .before .before .before .before .before)))
+slice-aggregate-give c =
+    sym
+    (length-take-le (c .before .before .before .before .before .before .before .before .before .read .given .0 .0) (c .before .before .before .before .before .before .before .before .before .before .before .before .before .fill .last .0) (sheet-is (c .before .before .before .before .before .before .before .before .before)))
 
 slice-reshare-prefix-give-2 : tie.Need-slice-reshare-prefix-give-2
 slice-reshare-prefix-give-2 c = more-is (c .before .before)
 
 slice-aggregate-give-2 : tie.Need-slice-aggregate-give-2
-slice-aggregate-give-2 c = sym (length-take-le (c .before .before .before .past2 .given .0 .0) (c .before .before .before .before .before .before .before .past .last .1 .0) (more-is (c .before .before .before)))
+slice-aggregate-give-2 c =
+    sym
+    (length-take-le (c .before .before .before .past2 .given .0 .0) (c .before .before .before .before .before .before .before .past .last .1 .0) (more-is (c .before .before .before)))
 
 give-requires : tie.Need-give-requires
 give-requires c κs =

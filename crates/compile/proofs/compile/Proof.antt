@@ -28,13 +28,18 @@ whole-requires : tie.Need-whole-requires
 whole-requires c κs = search needs
 
 returns : tie.Need-returns
-returns c = let a = c .before .before .before .before .before .args in rw (compile-long (now (a .sheet)) (length (now (a .plan))) (sym (c .before .before .too-long .ensures) ∙ c .before .if1 .taken)) (c .whole .ensures, refl)
+returns c =
+    let a = c .before .before .before .before .before .args in
+    rw (compile-long (now (a .sheet)) (length (now (a .plan))) (sym (c .before .before .too-long .ensures) ∙ c .before .if1 .taken))
+    (c .whole .ensures, refl)
 
 fresh-rows-requires : tie.Need-fresh-rows-requires
 fresh-rows-requires c κs = search needs
 
 read-requires : tie.Need-read-requires
-read-requires c κs = short (now (c .before .before .before .before .before .before .args .sheet)) (sym (c .before .before .before .too-long .ensures) ∙ c .before .before .if1 .left)
+read-requires c κs =
+    short (now (c .before .before .before .before .before .before .args .sheet))
+    (sym (c .before .before .before .too-long .ensures) ∙ c .before .before .if1 .left)
 
 enum-known-read : tie.Need-enum-known-read
 enum-known-read c = search needs
@@ -46,7 +51,12 @@ refused-requires : tie.Need-refused-requires
 refused-requires c κs = search needs
 
 returns-2 : tie.Need-returns-2
-returns-2 c = let a = c .before .before .before .before .before .before .before .before .before .before .args in let t = c .before .enum-told .given .1 in rw (compile-refused (now (a .sheet)) (length (now (a .plan))) (sym (c .before .before .before .before .before .before .before .too-long .ensures) ∙ c .before .before .before .before .before .before .if1 .left) _ (sym t ∙ c .before .before .before .read .ensures .0)) (c .refused .ensures ∙ rw t refl, refl)
+returns-2 c =
+    let a = c .before .before .before .before .before .before .before .before .before .before .args in
+    let t = c .before .enum-told .given .1 in
+    rw
+    (compile-refused (now (a .sheet)) (length (now (a .plan))) (sym (c .before .before .before .before .before .before .before .too-long .ensures) ∙ c .before .before .before .before .before .before .if1 .left) _ (sym t ∙ c .before .before .before .read .ensures .0))
+    (c .refused .ensures ∙ rw t refl, refl)
 
 length-of-requires : tie.Need-length-of-requires
 length-of-requires c κs = search needs
@@ -69,14 +79,17 @@ module _ (c : tie.After-length-of) where
   fresh = c .before .before .before .before .before .before .fresh-rows .result
 
   not-long : tooLong text ≡ false
-  not-long = sym (c .before .before .before .before .before .before .before .before .too-long .ensures) ∙ c .before .before .before .before .before .before .before .if1 .left
+  not-long =
+      sym (c .before .before .before .before .before .before .before .before .too-long .ensures)
+      ∙ c .before .before .before .before .before .before .before .if1 .left
 
   is-read : Gathered.Is count bytes ≡ readAs (sheetFrames text)
   is-read = sym (c .before .before .read2 .given .1) ∙ c .before .before .before .before .read .ensures .0
 
   few : (count ≤ 64) × (bytes ≤ 5056)
   few =
-      let s = both-true (leb count 64) _ (sym (ap small (c .before .before .read2 .given .1)) ∙ c .before .before .before .before .read .ensures .1 .1) in
+      let s =
+      both-true (leb count 64) _ (sym (ap small (c .before .before .read2 .given .1)) ∙ c .before .before .before .before .read .ensures .1 .1) in
       (leb-true count 64 (s .0), leb-true bytes 5056 (s .1))
 
   places : length fresh ≡ 64
@@ -96,7 +109,8 @@ whole-requires-2 c κs = search needs
 returns-3 : tie.Need-returns-3
 returns-3 c =
     let r = c .before .before in
-    rw (no-room (text r) (buffer r) (not-long r) (count r) (bytes r) (r .length-of .result) (is-read r) (r .length-of .ensures) (omega arith))
+    rw
+    (no-room (text r) (buffer r) (not-long r) (count r) (bytes r) (r .length-of .result) (is-read r) (r .length-of .ensures) (omega arith))
     (c .whole2 .ensures, refl)
 
 write-requires : tie.Need-write-requires

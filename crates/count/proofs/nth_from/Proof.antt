@@ -16,7 +16,8 @@ use Rattle.count.proofs.nth_from.Statement.{statement}
 use Rattle.count.proofs.nth_from.Tie as tie
 
 abbrev Inv-loop : tie.InvT-loop
-Inv-loop f start month day count k₀ n₀ left₀ k n left = (k ≤ 1200) × (k < 1200 → InMonth k n) × (dayOf k n ≤ 36525) × (1 ≤ left) × (nthDay f count (dayOf month day) ≡ nthDay f left (dayOf k n))
+Inv-loop f start month day count k₀ n₀ left₀ k n left =
+    (k ≤ 1200) × (k < 1200 → InMonth k n) × (dayOf k n ≤ 36525) × (1 ≤ left) × (nthDay f count (dayOf month day) ≡ nthDay f left (dayOf k n))
 
 abbrev μ-loop : tie.MeasureT-loop
 μ-loop f start month day count k₀ n₀ left₀ k n left = 1200 - k

@@ -19,7 +19,9 @@ same-length : tie.Need-same-length
 same-length c = search needs
 
 returns : tie.Need-returns
-returns c = let a = c .before .before .before .before .before .before .before .args in (c .compiled .ensures ∙ ap compiledFor (c .before .before .before .compile .ensures .0) ∙ compile-edge (compile (now (a .sheet)) (length (now (a .plan)))), c .before .before .before .compile .ensures .1)
+returns c =
+    let a = c .before .before .before .before .before .before .before .args in
+    (c .compiled .ensures ∙ ap compiledFor (c .before .before .before .compile .ensures .0) ∙ compile-edge (compile (now (a .sheet)) (length (now (a .plan)))), c .before .before .before .compile .ensures .1)
 
 pub evk-compile-spec : {M : Type 1} → statement M
 evk-compile-spec = tie.close (tie.spec compile-requires compiled-requires same-length returns)

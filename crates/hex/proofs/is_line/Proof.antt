@@ -51,7 +51,8 @@ loop-again : tie.Need-loop-again Inv-loop μ-loop
 loop-again c =
     let l = c .before .before .before .before .before .before .before .args .line .now in
     let v = c .before .before .before .before .loop in
-    let m : digitValue (getD l (v .i) 0) < 16 = omega (arith, value-at-most (getD l (v .i) 0), c .before .digit-value .ensures, c .if2 .left) in
+    let m : digitValue (getD l (v .i) 0) < 16 =
+    omega (arith, value-at-most (getD l (v .i) 0), c .before .digit-value .ensures, c .if2 .left) in
     (omega arith, rw (all-step l (v .i) (omega arith), lt-ltb _ _ m) at (v .inv .1))
 
 returns-3 : tie.Need-returns-3 Inv-loop μ-loop

@@ -44,7 +44,10 @@ loop-holds c = (omega arith, omega arith, one-le-pow _ 16 (omega arith), refl)
 mul-v : tie.Need-mul-v Inv-loop μ-loop
 mul-v c =
     let v = c .before .loop in
-    omega (arith, one-more (v .v) 0 (v .i - 2 * c .before .before .before .before .before .before .args .at) (v .inv .2) (omega arith) (omega arith))
+    omega (
+      arith,
+      one-more (v .v) 0 (v .i - 2 * c .before .before .before .before .before .before .args .at) (v .inv .2) (omega arith) (omega arith),
+    )
 
 shared-slice-read-digit-bits : tie.Need-shared-slice-read-digit-bits Inv-loop μ-loop
 shared-slice-read-digit-bits c = search needs
@@ -84,7 +87,8 @@ returns-4 c =
     let l = a .line .now in
     let v = c .before .loop in
     let z : 2 * a .at + 2 * a .k - v .i ≡ 0 = omega arith in
-    sym (passed (v .v) _ (drop (v .i) l) z) ∙ (v .inv .3 ∙ number-inside l (a .at) (a .k) (2 * a .at + 2 * a .k - 2 * a .at) (omega arith) (omega arith) (omega arith))
+    sym (passed (v .v) _ (drop (v .i) l) z)
+    ∙ (v .inv .3 ∙ number-inside l (a .at) (a .k) (2 * a .at + 2 * a .k - 2 * a .at) (omega arith) (omega arith) (omega arith))
 
 pub number-spec : {M : Type 1} → statement M
 number-spec =

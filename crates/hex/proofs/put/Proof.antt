@@ -10,7 +10,8 @@ use Rattle.hex.proofs.put.Statement.{statement}
 use Rattle.hex.proofs.put.Tie as tie
 
 abbrev Inv-loop : tie.InvT-loop
-Inv-loop buf₀ at k v left₀ i₀ buf left i = (i ≤ k) × (length buf ≡ length buf₀) × (replaced buf at (hexOf i left) ≡ replaced buf₀ at (hexOf k v))
+Inv-loop buf₀ at k v left₀ i₀ buf left i =
+    (i ≤ k) × (length buf ≡ length buf₀) × (replaced buf at (hexOf i left) ≡ replaced buf₀ at (hexOf k v))
 
 abbrev μ-loop : tie.MeasureT-loop
 μ-loop buf₀ at k v left₀ i₀ buf left i = i

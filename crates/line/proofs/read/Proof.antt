@@ -28,7 +28,11 @@ shared-slice-read-if3 c = search needs
 returns-3 : tie.Need-returns-3
 unfolding lined linedForm
 returns-3 c = let a = c .before .before .before .before .before .before .args in
-    rw (sym (c .before .before .before .before .good2 .ensures) ∙ not-false _ (c .before .before .before .if1 .left), tag-and-space (now (a .line)) (omega arith), ne-eqb _ _ (c .if3 .taken)) refl
+    rw (
+      sym (c .before .before .before .before .good2 .ensures) ∙ not-false _ (c .before .before .before .if1 .left),
+      tag-and-space (now (a .line)) (omega arith),
+      ne-eqb _ _ (c .if3 .taken),
+    ) refl
 
 shared-slice-read-match : tie.Need-shared-slice-read-match
 shared-slice-read-match c = search needs
@@ -54,37 +58,79 @@ time-line-requires-2 c κs = search needs
 returns-4 : tie.Need-returns-4
 unfolding lined tagged
 returns-4 c = let a = c .before .before .before .before .before .before .before .before .before .args in
-    rw (sym (c .before .before .before .before .before .before .before .good2 .ensures) ∙ not-false _ (c .before .before .before .before .before .before .if1 .left), tag-and-space (now (a .line)) (omega arith), eq-eqb _ _ (c .before .before .before .if3 .left), c .before .match .keys1) (c .zone-line .ensures)
+    rw (
+      sym (c .before .before .before .before .before .before .before .good2 .ensures)
+          ∙ not-false _ (c .before .before .before .before .before .before .if1 .left),
+      tag-and-space (now (a .line)) (omega arith),
+      eq-eqb _ _ (c .before .before .before .if3 .left),
+      c .before .match .keys1,
+    ) (c .zone-line .ensures)
 
 returns-5 : tie.Need-returns-5
 unfolding lined tagged
 returns-5 c = let a = c .before .before .before .before .before .before .before .before .before .args in
-    rw (sym (c .before .before .before .before .before .before .before .good2 .ensures) ∙ not-false _ (c .before .before .before .before .before .before .if1 .left), tag-and-space (now (a .line)) (omega arith), eq-eqb _ _ (c .before .before .before .if3 .left), c .before .match .keys2) (c .change-line .ensures)
+    rw (
+      sym (c .before .before .before .before .before .before .before .good2 .ensures)
+          ∙ not-false _ (c .before .before .before .before .before .before .if1 .left),
+      tag-and-space (now (a .line)) (omega arith),
+      eq-eqb _ _ (c .before .before .before .if3 .left),
+      c .before .match .keys2,
+    ) (c .change-line .ensures)
 
 returns-6 : tie.Need-returns-6
 unfolding lined tagged
 returns-6 c = let a = c .before .before .before .before .before .before .before .before .before .args in
-    rw (sym (c .before .before .before .before .before .before .before .good2 .ensures) ∙ not-false _ (c .before .before .before .before .before .before .if1 .left), tag-and-space (now (a .line)) (omega arith), eq-eqb _ _ (c .before .before .before .if3 .left), c .before .match .keys3) (c .cron-line .ensures)
+    rw (
+      sym (c .before .before .before .before .before .before .before .good2 .ensures)
+          ∙ not-false _ (c .before .before .before .before .before .before .if1 .left),
+      tag-and-space (now (a .line)) (omega arith),
+      eq-eqb _ _ (c .before .before .before .if3 .left),
+      c .before .match .keys3,
+    ) (c .cron-line .ensures)
 
 returns-7 : tie.Need-returns-7
 unfolding lined tagged
 returns-7 c = let a = c .before .before .before .before .before .before .before .before .before .args in
-    rw (sym (c .before .before .before .before .before .before .before .good2 .ensures) ∙ not-false _ (c .before .before .before .before .before .before .if1 .left), tag-and-space (now (a .line)) (omega arith), eq-eqb _ _ (c .before .before .before .if3 .left), c .before .match .keys4) (c .rule-line .ensures)
+    rw (
+      sym (c .before .before .before .before .before .before .before .good2 .ensures)
+          ∙ not-false _ (c .before .before .before .before .before .before .if1 .left),
+      tag-and-space (now (a .line)) (omega arith),
+      eq-eqb _ _ (c .before .before .before .if3 .left),
+      c .before .match .keys4,
+    ) (c .rule-line .ensures)
 
 returns-8 : tie.Need-returns-8
 unfolding lined tagged
 returns-8 c = let a = c .before .before .before .before .before .before .before .before .before .args in
-    rw (sym (c .before .before .before .before .before .before .before .good2 .ensures) ∙ not-false _ (c .before .before .before .before .before .before .if1 .left), tag-and-space (now (a .line)) (omega arith), eq-eqb _ _ (c .before .before .before .if3 .left), c .before .match .keys5) (c .time-line .ensures)
+    rw (
+      sym (c .before .before .before .before .before .before .before .good2 .ensures)
+          ∙ not-false _ (c .before .before .before .before .before .before .if1 .left),
+      tag-and-space (now (a .line)) (omega arith),
+      eq-eqb _ _ (c .before .before .before .if3 .left),
+      c .before .match .keys5,
+    ) (c .time-line .ensures)
 
 returns-9 : tie.Need-returns-9
 unfolding lined tagged
 returns-9 c = let a = c .before .before .before .before .before .before .before .before .before .args in
-    rw (sym (c .before .before .before .before .before .before .before .good2 .ensures) ∙ not-false _ (c .before .before .before .before .before .before .if1 .left), tag-and-space (now (a .line)) (omega arith), eq-eqb _ _ (c .before .before .before .if3 .left), c .before .match .keys6) (c .time-line2 .ensures)
+    rw (
+      sym (c .before .before .before .before .before .before .before .good2 .ensures)
+          ∙ not-false _ (c .before .before .before .before .before .before .if1 .left),
+      tag-and-space (now (a .line)) (omega arith),
+      eq-eqb _ _ (c .before .before .before .if3 .left),
+      c .before .match .keys6,
+    ) (c .time-line2 .ensures)
 
 returns-10 : tie.Need-returns-10
 unfolding lined linedForm
 returns-10 c = let a = c .before .before .before .before .before .before .before .before .args in
-    rw (sym (c .before .before .before .before .before .before .good2 .ensures) ∙ not-false _ (c .before .before .before .before .before .if1 .left), tag-and-space (now (a .line)) (omega arith), eq-eqb _ _ (c .before .before .if3 .left), other-tag _ _ (c .match .rest .0 .0 .0 .0 .0 .1) (c .match .rest .0 .0 .0 .0 .1) (c .match .rest .0 .0 .0 .1) (c .match .rest .0 .0 .1) (c .match .rest .0 .1) (c .match .rest .1)) refl
+    rw (
+      sym (c .before .before .before .before .before .before .good2 .ensures)
+          ∙ not-false _ (c .before .before .before .before .before .if1 .left),
+      tag-and-space (now (a .line)) (omega arith),
+      eq-eqb _ _ (c .before .before .if3 .left),
+      other-tag _ _ (c .match .rest .0 .0 .0 .0 .0 .1) (c .match .rest .0 .0 .0 .0 .1) (c .match .rest .0 .0 .0 .1) (c .match .rest .0 .0 .1) (c .match .rest .0 .1) (c .match .rest .1),
+    ) refl
 
 pub read-spec : {M : Type 1} → statement M
 read-spec =

@@ -25,10 +25,17 @@ begun-requires : tie.Need-begun-requires Inv-loop μ-loop
 begun-requires c κs = search needs
 
 sub-n : tie.Need-sub-n Inv-loop μ-loop
-sub-n c = omega (arith, c .begun .ensures, begun-one (getD (now (c .before .before .before .before .before .args .text)) (c .before .before .before .loop .i) 0))
+sub-n c =
+    omega (
+      arith,
+      c .begun .ensures,
+      begun-one (getD (now (c .before .before .before .before .before .args .text)) (c .before .before .before .loop .i) 0),
+    )
 
 add-n : tie.Need-add-n Inv-loop μ-loop
-add-n c = let b = begun-one (getD (now (c .before .before .before .before .before .args .text)) (c .before .before .before .loop .i) 0) in omega (arith, c .before .before .before .loop .inv)
+add-n c =
+    let b = begun-one (getD (now (c .before .before .before .before .before .args .text)) (c .before .before .before .loop .i) 0) in
+    omega (arith, c .before .before .before .loop .inv)
 
 add-i : tie.Need-add-i Inv-loop μ-loop
 add-i c = search needs
@@ -37,13 +44,20 @@ loop-less : tie.Need-loop-less Inv-loop μ-loop
 loop-less c = omega arith
 
 loop-again : tie.Need-loop-again Inv-loop μ-loop
-loop-again c = let v = c .before .before .before .loop in let t = now (c .before .before .before .before .before .args .text) in let b = c .begun .ensures in (v .inv .0 ∙ ap (λ (k : ℕ). v .n + k) (counted-byte t (v .i) (v .tail) (omega arith)) ∙ rw b (omega arith), omega (arith, b, begun-one (getD t (v .i) 0), v .inv), omega arith)
+loop-again c =
+    let v = c .before .before .before .loop in
+    let t = now (c .before .before .before .before .before .args .text) in
+    let b = c .begun .ensures in
+    (v .inv .0 ∙ ap (λ (k : ℕ). v .n + k) (counted-byte t (v .i) (v .tail) (omega arith)) ∙ rw b (omega arith), omega (arith, b, begun-one (getD t (v .i) 0), v .inv), omega arith)
 
 add-result : tie.Need-add-result Inv-loop μ-loop
 add-result c = omega (arith, c .before .loop .inv)
 
 returns : tie.Need-returns Inv-loop μ-loop
-returns c = let v = c .before .loop in let t = now (c .before .before .before .args .text) in ap (λ (k : ℕ). v .n + k) (sym (counted-none t (v .i) (v .tail) (omega arith))) ∙ sym (v .inv .0) ∙ counted-all t
+returns c =
+    let v = c .before .loop in
+    let t = now (c .before .before .before .args .text) in
+    ap (λ (k : ℕ). v .n + k) (sym (counted-none t (v .i) (v .tail) (omega arith))) ∙ sym (v .inv .0) ∙ counted-all t
 
 pub line-count-spec : {M : Type 1} → statement M
 line-count-spec =

@@ -36,7 +36,11 @@ returns c = let a = c .before .before .before .before .before .args in
 
 sub-allow : tie.Need-sub-allow Inv-loop μ-loop
 sub-allow c = let v = c .before .before .before .loop in
-    omega (arith, c .before .line-end .ensures, end-least (now (c .before .before .before .before .before .args .plan)) (v .at) (v .inv .within) .from)
+    omega (
+      arith,
+      c .before .line-end .ensures,
+      end-least (now (c .before .before .before .before .before .args .plan)) (v .at) (v .inv .within) .from,
+    )
 
 part-allow-start : tie.Need-part-allow-start Inv-loop μ-loop
 part-allow-start c = let v = c .before .before .before .loop in
@@ -64,7 +68,8 @@ returns-2 c = let a = c .before .before .before .before .before .before .before 
     let v = c .before .before .before .before .before .before .before .loop in
     let b = beforeOf (v .before) in
     let end = c .before .before .before .before .before .line-end .ensures in
-    left-not p (now (a .rows)) (v .rows) (v .n) (v .at) b (v .inv) (omega (arith, end)) (sym (ap allowedOf (c .enum-told .given .1)) ∙ rw end at (c .before .before .allow .ensures))
+    left-not p (now (a .rows)) (v .rows) (v .n) (v .at) b (v .inv) (omega (arith, end))
+    (sym (ap allowedOf (c .enum-told .given .1)) ∙ rw end at (c .before .before .allow .ensures))
 
 add-at : tie.Need-add-at Inv-loop μ-loop
 add-at c = search needs
@@ -86,7 +91,8 @@ returns-3 c = let a = c .before .before .before .before .before .before .before 
     let end = c .before .before .before .before .before .before .before .before .before .line-end .ensures in
     let s = c .before .before .before .before .step .given in
     let e = sym (ap allowedOf (s .1)) ∙ (rw end at (c .before .before .before .before .before .before .allow .ensures)) in
-    let l = left-end p (now (a .rows)) (v .rows) (v .n) (v .at) b (v .inv) (omega (arith, end)) _ _ e (sym (c .before .before .is-end .ensures) ∙ c .before .if2 .taken) in
+    let l =
+    left-end p (now (a .rows)) (v .rows) (v .n) (v .at) b (v .inv) (omega (arith, end)) _ _ e (sym (c .before .before .is-end .ensures) ∙ c .before .if2 .taken) in
     (c .ended .ensures ∙ rw end (l .0), l .1)
 
 row-of-requires : tie.Need-row-of-requires Inv-loop μ-loop
@@ -96,7 +102,8 @@ mul-t9 : tie.Need-mul-t9 Inv-loop μ-loop
 mul-t9 c = search needs
 
 element-set-from-rows : tie.Need-element-set-from-rows Inv-loop μ-loop
-element-set-from-rows c = let a = c .before .before .before .before .before .before .before .before .before .before .before .before .before .args in
+element-set-from-rows c =
+    let a = c .before .before .before .before .before .before .before .before .before .before .before .before .before .args in
     let p = now (a .plan) in
     let v = c .before .before .before .before .before .before .before .before .before .before .before .loop in
     let b = beforeOf (v .before) in
@@ -110,7 +117,13 @@ add-n c = search needs
 
 loop-less : tie.Need-loop-less Inv-loop μ-loop
 loop-less c = let v = c .before .before .before .before .before .before .before .before .before .before .before .loop in
-    omega (arith, c .before .before .before .before .before .before .before .before .before .line-end .ensures, end-least (now (c .before .before .before .before .before .before .before .before .before .before .before .before .before .args .plan)) (v .at) (v .inv .within) .from)
+    omega (
+      arith,
+      c .before .before .before .before .before .before .before .before .before .line-end .ensures,
+      end-least
+          (now (c .before .before .before .before .before .before .before .before .before .before .before .before .before .args .plan)) (v .at)
+          (v .inv .within) .from,
+    )
 
 loop-again : tie.Need-loop-again Inv-loop μ-loop
 loop-again c = let a = c .before .before .before .before .before .before .before .before .before .before .before .before .before .args in
@@ -120,7 +133,8 @@ loop-again c = let a = c .before .before .before .before .before .before .before
     let end = c .before .before .before .before .before .before .before .before .before .line-end .ensures in
     let s = c .before .before .before .before .step .given in
     let e = sym (ap allowedOf (s .1)) ∙ (rw end at (c .before .before .before .before .before .before .allow .ensures)) in
-    let l = left-on p (now (a .rows)) (v .rows) (v .n) (v .at) b (v .inv) (omega (arith, end)) _ _ e (sym (c .before .before .is-end .ensures) ∙ c .before .if2 .left) in
+    let l =
+    left-on p (now (a .rows)) (v .rows) (v .n) (v .at) b (v .inv) (omega (arith, end)) _ _ e (sym (c .before .before .is-end .ensures) ∙ c .before .if2 .left) in
     rw (end, c .row-of .ensures) l
 
 add-t23 : tie.Need-add-t23 Inv-loop μ-loop
@@ -129,7 +143,8 @@ add-t23 c = search needs
 returns-4 : tie.Need-returns-4 Inv-loop μ-loop
 returns-4 c = let a = c .before .before .before .args in
     let v = c .before .loop in
-    left-none (now (a .plan)) (now (a .rows)) (v .rows) (v .n) (v .at) (beforeOf (v .before)) (v .inv) (omega (arith, end-past (now (a .plan)) (v .at) (omega arith)))
+    left-none (now (a .plan)) (now (a .rows)) (v .rows) (v .n) (v .at) (beforeOf (v .before)) (v .inv)
+    (omega (arith, end-past (now (a .plan)) (v .at) (omega arith)))
 
 pub load-spec : {M : Type 1} → statement M
 load-spec =

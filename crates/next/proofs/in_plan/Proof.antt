@@ -40,7 +40,8 @@ returns-2 c =
     let t = c .before .before in
     let l = t .before .before .before .before in
     let p = now (l .before .before .before .before .args .plan) in
-    let r = ready p _ _ _ (ap length (l .before .before .fresh-rows .ensures)) (sym (l .load .ensures .0) ∙ t .before .before .count .given .1) (l .load .ensures .1) in
+    let r =
+    ready p _ _ _ (ap length (l .before .before .fresh-rows .ensures)) (sym (l .load .ensures .0) ∙ t .before .before .count .given .1) (l .load .ensures .1) in
     rw (c .answer-of .ensures) (answer-ready p _ _ r _ _ (c .before .in-rows .ensures))
 
 pub in-plan-spec : {M : Type 1} → statement M

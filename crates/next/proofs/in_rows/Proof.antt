@@ -57,7 +57,8 @@ returns-3 c =
 
 returns-4 : tie.Need-returns-4
 unfolding RightOf
-returns-4 c = rw (c .before .before .ask4 .given .1, ← c .before .before .before .before .zone-of .ensures) (ap Found.Is (c .offset-at .ensures))
+returns-4 c =
+    rw (c .before .before .ask4 .given .1, ← c .before .before .before .before .zone-of .ensures) (ap Found.Is (c .offset-at .ensures))
 
 pub in-rows-spec : {M : Type 1} → statement M
 in-rows-spec =

@@ -27,12 +27,19 @@ same-length c = search needs
 
 returns : tie.Need-returns
 returns c = let a = c .before .before .before .before .before .before .before .before .before .before .before .args in
-    let e = ap (λ (x : Context). lined (contextAs x) (now (a .s))) (sym (c .before .before .before .before .before .before .before .before .context-of .ensures)) ∙ sym (c .before .before .before .before .before .before .before .read .ensures) ∙ c .before .before .before .before .before .found .given .1 in
+    let e =
+    ap (λ (x : Context). lined (contextAs x) (now (a .s)))
+    (sym (c .before .before .before .before .before .before .before .before .context-of .ensures))
+    ∙ sym (c .before .before .before .before .before .before .before .read .ensures)
+    ∙ c .before .before .before .before .before .found .given .1 in
     (rw (e, c .before .before .write .ensures .0) refl, rw e (c .before .before .write .ensures .1))
 
 returns-2 : tie.Need-returns-2
 returns-2 c = let a = c .before .before .before .before .before .before .before .args in
-    let e = ap (λ (x : Context). lined (contextAs x) (now (a .s))) (sym (c .before .before .before .before .context-of .ensures)) ∙ sym (c .before .before .before .read .ensures) ∙ c .before .found2 .given .1 in
+    let e =
+    ap (λ (x : Context). lined (contextAs x) (now (a .s))) (sym (c .before .before .before .before .context-of .ensures))
+    ∙ sym (c .before .before .before .read .ensures)
+    ∙ c .before .found2 .given .1 in
     (rw e refl, rw e refl)
 
 pub probe-line-spec : {M : Type 1} → statement M

@@ -9,7 +9,11 @@ both-requires : tie.Need-both-requires
 both-requires c κs = search needs
 
 returns : tie.Need-returns
-returns c = rw (daily-in (c .before .before .before .before .before .before .before .before .args .p) (c .before .before .before .if1 .taken), c .both .ensures)
+returns c =
+    rw (
+      daily-in (c .before .before .before .before .before .before .before .before .args .p) (c .before .before .before .if1 .taken),
+      c .both .ensures,
+    )
 
 both-requires-2 : tie.Need-both-requires-2
 both-requires-2 c κs = search needs
@@ -18,7 +22,13 @@ both-requires-3 : tie.Need-both-requires-3
 both-requires-3 c κs = search needs
 
 returns-2 : tie.Need-returns-2
-returns-2 c = rw (weekly-in (c .before .before .before .before .before .before .before .before .before .before .before .before .args .p) (c .before .before .before .before .before .if2 .taken), c .both3 .ensures, c .before .both2 .ensures)
+returns-2 c =
+    rw (
+      weekly-in (c .before .before .before .before .before .before .before .before .before .before .before .before .args .p)
+          (c .before .before .before .before .before .if2 .taken),
+      c .both3 .ensures,
+      c .before .both2 .ensures,
+    )
 
 both-requires-4 : tie.Need-both-requires-4
 both-requires-4 c κs = search needs
@@ -27,10 +37,18 @@ both-requires-5 : tie.Need-both-requires-5
 both-requires-5 c κs = search needs
 
 returns-3 : tie.Need-returns-3
-returns-3 c = rw (monthly-in (c .before .before .before .before .before .before .before .before .before .before .before .before .before .args .p) (c .before .before .before .before .if3 .taken), c .both5 .ensures, c .before .both4 .ensures)
+returns-3 c =
+    rw (
+      monthly-in (c .before .before .before .before .before .before .before .before .before .before .before .before .before .args .p)
+          (c .before .before .before .before .if3 .taken),
+      c .both5 .ensures,
+      c .before .both4 .ensures,
+    )
 
 returns-4 : tie.Need-returns-4
-returns-4 c = sym (none-in (c .before .before .before .before .before .before .before .before .before .args .p) (c .before .before .before .before .if1 .left) (c .before .before .if2 .left) (c .if3 .left))
+returns-4 c =
+    sym
+    (none-in (c .before .before .before .before .before .before .before .before .before .args .p) (c .before .before .before .before .if1 .left) (c .before .before .if2 .left) (c .if3 .left))
 
 pub by-frequency-spec : {M : Type 1} → statement M
 by-frequency-spec =

@@ -14,7 +14,9 @@ returns c = rw (stopped (c .before .start-held .ensures) (c .if1 .taken))
 
 returns-2 : tie.Need-returns-2
 unfolding startHeldIn
-returns-2 c = rw (passed (c .before .before .before .before .start-held .ensures) (c .before .before .before .if1 .left), c .before .before .if2 .taken)
+returns-2 c =
+    rw
+    (passed (c .before .before .before .before .start-held .ensures) (c .before .before .before .if1 .left), c .before .before .if2 .taken)
 
 returns-3 : tie.Need-returns-3
 unfolding startHeldIn

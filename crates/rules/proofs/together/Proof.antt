@@ -21,7 +21,8 @@ by-frequency-requires c κs = search needs
 
 returns-3 : tie.Need-returns-3
 unfolding togetherIn
-returns-3 c = rw (← c .by-frequency .ensures, c .before .before .before .if1 .left, sym (c .before .before .both .ensures) ∙ c .before .if2 .left)
+returns-3 c =
+    rw (← c .by-frequency .ensures, c .before .before .before .if1 .left, sym (c .before .before .both .ensures) ∙ c .before .if2 .left)
 
 pub together-spec : {M : Type 1} → statement M
 together-spec =

@@ -157,7 +157,8 @@ module _ {M : Type 1} (𝓤 : URA M) (H : Heap 𝓤) (A : Atoms 𝓤) (W : Given
   to-fewer = ((tt, tt, tt, (z .count, (32, tt)), (vint w64 (z .count) ∷ [], (vint w64 32 ∷ [], tt))), tt)
 
   asked-fewer : ent 𝓤 (emp 𝓤) (Fewer 𝓤 H A mem run .pre to-fewer)
-  asked-fewer = qed W [] ∵ nothing ! $ number ! 32 (lit< tt) $ fjoin ! $ number ! (z .count) gc $ fjoin ! $ nothing ! $ join ! $ frame ! $ done !
+  asked-fewer =
+      qed W [] ∵ nothing ! $ number ! 32 (lit< tt) $ fjoin ! $ number ! (z .count) gc $ fjoin ! $ nothing ! $ join ! $ frame ! $ done !
 
   -- the call of `offset_over`, at a lifetime and a place
   module _ (κ : Lft) (γ : GName) (l : ℕ) where
@@ -189,11 +190,13 @@ module _ {M : Type 1} (𝓤 : URA M) (H : Heap 𝓤) (A : Atoms 𝓤) (W : Given
     walk : ent 𝓤 (onEntry 𝓤 H A f.signature tt tt (z, (instant, tt)) at) (WpFn 𝓤 H C Λ code.function (val z ∷ vint w64 instant ∷ []) Post)
     walk =
         qed W (‵ ftrue ∷ ‵ (owns (Z.the-row ∷ u64 ∷ []) (z, (instant, tt)) at) ∷ []) ∵ enter ! C Λ code.function (val z ∷ vint w64 instant ∷ []) _ $
-        alloc1 ! (λ l₀. alloc1 ! (λ l₁. alloc1 ! (λ l₂. alloc1 ! (λ l₃. alloc1 ! (λ l₄. alloc1 ! (λ l₅. alloc1 ! (λ l₆. alloc1 ! (λ l₇. alloc1 ! (λ l₈.
+        alloc1 !
+        (λ l₀. alloc1 ! (λ l₁. alloc1 ! (λ l₂. alloc1 ! (λ l₃. alloc1 ! (λ l₄. alloc1 ! (λ l₅. alloc1 ! (λ l₆. alloc1 ! (λ l₇. alloc1 ! (λ l₈.
         alloc0 ! $ params1 ! $ pass1 ! (init ! 14 refl wt) $ pass1 ! (init ! 12 refl (fits _ gi)) $ pass0 ! $
         keep ! (0 ∷ 1 ∷ 2 ∷ 3 ∷ 4 ∷ 5 ∷ 6 ∷ 7 ∷ 8 ∷ 9 ∷ 10 ∷ 11 ∷ 12 ∷ 13 ∷ 14 ∷ 15 ∷ 16 ∷ 17 ∷ []) $
         assigns ! (of-opd ! (value ! 14 refl)) (here !) (init ! 10 refl wt) $
-        assigns ! (of-opd ! (part ! 10 1 refl refl refl)) (here !) (init ! 6 refl (fits _ gc)) $ use0 W (raw (Fewer 𝓤 H A mem run .pre to-fewer)) asked-fewer $
+        assigns ! (of-opd ! (part ! 10 1 refl refl refl)) (here !) (init ! 6 refl (fits _ gc)) $ use0 W
+        (raw (Fewer 𝓤 H A mem run .pre to-fewer)) asked-fewer $
         asks ! fm (Fewer 𝓤 H A mem run) known-fewer to-fewer (‵ ftrue) _ (λ (m : ℕ). m ≡ n) (λ v. refl)
         (λ m. exE 𝓤 _ (λ ws. snd∗ 𝓤 (sem 𝓤 H A (lasts fewer.ended tt (z .count, (32, tt)) ws)) _))
         (and-then ! (value ! 7 refl) (and-then ! (lit ! tt) (no-more !))) (λ m e g. drop ! $ land ! (here !) (init ! 8 refl (fits _ g)) $
@@ -207,35 +210,42 @@ module _ {M : Type 1} (𝓤 : URA M) (H : Heap 𝓤) (A : Atoms 𝓤) (W : Given
         use1 W (‵ (row R fullShare (z .changes) l₃ 16)) (lay 𝓤 H A W 32 (z .changes) arr l₃ 16 held) $
         use1 W (‵ (row R fullShare ys l₃ 16) ⊛ ‵ (Back l₃)) (fronts 𝓤 H A W fullShare n (z .changes) l₃ 16) $ split ! $
         feqI ! ℕ (length ys) (length ys) refl $ fjoin ! $ lft-new ! tt (λ α. move ! (1 ∷ []) $
-        use1 W (later (some (λ (γ : GName). ‵ (Own (α ∷ []) γ l₃) ⊛ ‵ (flent (α ∷ []) (arr-parts (shares R) (length ys) .part fullShare ys l₃ 16)))))
+        use1 W
+        (later (some (λ (γ : GName). ‵ (Own (α ∷ []) γ l₃) ⊛ ‵ (flent (α ∷ []) (arr-parts (shares R) (length ys) .part fullShare ys l₃ 16)))))
         (lends-shr-slice 𝓤 H A W R (named 0) (α ∷ []) fullShare ys l₃ 16 room) $ await ! tt $ pick ! (λ γ. split ! $ move ! (2 ∷ 0 ∷ []) $
         use2 W (raw (Over 𝓤 H A mem run .pre (to-over (α ∷ []) γ l₃))) (asked-over (α ∷ []) γ l₃) $
         -- [what the callee asks; the lender's part; the other elements; the way back; _8; …; that _3 dies; _2; …; _0; …]
         asks ! fm (Over 𝓤 H A mem run) known-over (to-over (α ∷ []) γ l₃) (‵ (flft (α ∷ []) fullShare) ⊛ ‵ ftrue) _ Found (λ v. refl)
         (λ r. exE 𝓤 _ (λ ws. snd∗ 𝓤 (sem 𝓤 H A (lasts over.ended (α ∷ [], tt) (lent (α ∷ []) γ l₃, (z .first, (instant, tt))) ws)) _))
-        (and-then ! (value ! 6 refl) (and-then ! (value ! 4 refl) (and-then ! (value ! 15 refl) (no-more !)))) (λ r e g. land ! (here !) (init ! 19 refl (fits _ g)) $
+        (and-then ! (value ! 6 refl) (and-then ! (value ! 4 refl) (and-then ! (value ! 15 refl) (no-more !))))
+        (λ r e g. land ! (here !) (init ! 19 refl (fits _ g)) $
         -- the lifetime is ended, and the elements come back
         split ! $ lft-end ! tt $ move ! (0 ∷ 2 ∷ []) $ lent-back ! tt $ fsplit ! $ drop ! $ move ! (0 ∷ 2 ∷ []) $
         use2 W (‵ (row R fullShare (z .changes) l₃ 16)) (rejoins 𝓤 H A W fullShare n (z .changes) l₃ 16) $
-        use1 W (some (λ (v : Val). ‵ (fat fullShare (tyArray T′.mir 32) l₃ 16 v))) (unlay 𝓤 H A W 32 (z .changes) l₃ 16 (whole z is)) $ pick ! (λ v.
+        use1 W (some (λ (v : Val). ‵ (fat fullShare (tyArray T′.mir 32) l₃ 16 v))) (unlay 𝓤 H A W 32 (z .changes) l₃ 16 (whole z is)) $ pick
+        ! (λ v.
         move ! (2 ∷ []) $ use1 W (raw (Way l₃ v)) (allE 𝓤 (Way l₃) v) $ move ! (1 ∷ 0 ∷ []) $
-        use2 W (‵ (has Z′.mir l₃ (with-arr v))) (apply∗ 𝓤 (H .at fullShare (tyArray T′.mir 32) l₃ 16 v) (H .at fullShare Z′.mir l₃ 0 (with-arr v))) $
+        use2 W (‵ (has Z′.mir l₃ (with-arr v)))
+        (apply∗ 𝓤 (H .at fullShare (tyArray T′.mir 32) l₃ 16 v) (H .at fullShare Z′.mir l₃ 0 (with-arr v))) $
         -- [_3; true; _8; …; that _3 dies; _2; …; _0; …]
         returns ! (look ! 17 refl) $ forget ! 0 refl $ forget ! 2 refl $ forget ! 4 refl $ forget ! 6 refl $ forget ! 8 refl $
         forget ! 10 refl $ forget ! 13 refl $ forget ! 15 refl $ forget ! 17 refl $
-        move ! (17 ∷ 18 ∷ 15 ∷ 16 ∷ 13 ∷ 14 ∷ 0 ∷ 12 ∷ 10 ∷ 11 ∷ 8 ∷ 9 ∷ 6 ∷ 7 ∷ 4 ∷ 5 ∷ 2 ∷ 3 ∷ []) $ free-all ! $ drop ! $ by ! (exits r g e)))))))))))))))
+        move ! (17 ∷ 18 ∷ 15 ∷ 16 ∷ 13 ∷ 14 ∷ 0 ∷ 12 ∷ 10 ∷ 11 ∷ 8 ∷ 9 ∷ 6 ∷ 7 ∷ 4 ∷ 5 ∷ 2 ∷ 3 ∷ []) $ free-all ! $ drop ! $ by !
+        (exits r g e)))))))))))))))
 
 module _ {M : Type 1} (𝓤 : URA M) (H : Heap 𝓤) (A : Atoms 𝓤) (W : Given 𝓤 H A) (mem : Memory → SProp 𝓤) (run : Routine → Fun 𝓤) (𝓣 : Tables 𝓤 H)
     (known-fewer : Triple 𝓤 (𝓣 .C #calendar·num·fewer) (Fewer 𝓤 H A mem run)) (known-over : Triple 𝓤 (𝓣 .C #zone·offset-over) (Over 𝓤 H A mem run)) where
   walks : Walks 𝓤 H A f.ended stayed (WpFn 𝓤 H (𝓣 .C) (𝓣 .Λ) code.function) (f.clauses 𝓤 H A mem run)
   walks =
-      walked 𝓤 H A f.ended stayed (f.clauses 𝓤 H A mem run) (WpFn 𝓤 H (𝓣 .C) (𝓣 .Λ) code.function) (λ κs. (LL.vals Z.the-type Z′.the-laws, (uint-vals w64, tt)))
+      walked 𝓤 H A f.ended stayed (f.clauses 𝓤 H A mem run) (WpFn 𝓤 H (𝓣 .C) (𝓣 .Λ) code.function)
+      (λ κs. (LL.vals Z.the-type Z′.the-laws, (uint-vals w64, tt)))
       (λ κs. (LL.tells Z.the-type Z′.the-laws, (uint-tells w64, tt))) (λ κs qs bounds a g are. via 𝓤 _ (fst∗ 𝓤 _ (emp 𝓤))
       (walk 𝓤 H A W mem run (a .0) (a .1 .0) (are .0) (are .1 .0 .1) (𝓣 .C) (𝓣 .Λ) (fmOf 𝓤 H (W .laws) 𝓣) known-fewer known-over))
 
   meets : Meets 𝓤 H A f.signature (WpFn 𝓤 H (𝓣 .C) (𝓣 .Λ) code.function) (f.spec 𝓤 H A mem run)
   meets =
-      walk-meets 𝓤 H A f.ended stayed W (goes-none 𝓤 H A W 0 (λ _. Z.the-row) yes (λ κs x f. refl), (goes-none 𝓤 H A W 0 (λ _. u64) yes (λ κs x f. refl), tt))
+      walk-meets 𝓤 H A f.ended stayed W
+      (goes-none 𝓤 H A W 0 (λ _. Z.the-row) yes (λ κs x f. refl), (goes-none 𝓤 H A W 0 (λ _. u64) yes (λ κs x f. refl), tt))
       (f.clauses 𝓤 H A mem run) _ (WpFn-mono 𝓤 H (W .laws) 𝓣 code.function) walks
 
 pub offset-at-spec : {M : Type 1} → stated.statement M

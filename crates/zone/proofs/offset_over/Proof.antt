@@ -151,7 +151,8 @@ module _ {M : Type 1} (𝓤 : URA M) (H : Heap 𝓤) (A : Atoms 𝓤) (W : Given
     Next s = anyQ (afterTurn 𝓤 H (Below 𝓤 H A Less I s) Left)
 
     -- the turn's last statement, whatever the branch left as the offset
-    stepped : (s : At) (x : Transition) (p m : ℕ) (t : Bool) (offset : ℕ) → s .k < n → offset < 2 ^ 64 → Agrees first ys instant (s .k + 1) offset
+    stepped : (s : At) (x : Transition) (p m : ℕ) (t : Bool) (offset : ℕ) → s .k < n → offset < 2 ^ 64
+        → Agrees first ys instant (s .k + 1) offset
         → Sq W (Γ (has T′.mir l₁₀ (val x)) (has tyPtr l₉ (vptr b p)) (has tyBool l₈ (vbool t)) (has word l₇ (vint w64 m)) (has T′.mir l₆ (val x)) (s .k) offset)
         (runs C Λ E steps (Next s))
     unfolding afterTurn
@@ -228,17 +229,22 @@ module _ {M : Type 1} (𝓤 : URA M) (H : Heap 𝓤) (A : Atoms 𝓤) (W : Given
       assigns ! (of-opd ! (value ! 16 refl)) (here !) (init ! 12 refl (fits _ gf)) $
       assigns ! (of-opd ! (lit ! tt)) (here !) (init ! 10 refl (fits _ (lit< tt))) $
       move ! (23 ∷ []) $ fsplit ! $ fsplit ! $ move ! (1 ∷ []) $ fsplit ! $ move ! (26 ∷ []) $ split ! $ move ! (3 ∷ 0 ∷ []) $
-      looks-slice ! tt R (Is R) (shows 𝓤 H A R) vals (LL.tells T.the-type T′.the-laws) (LL.copy T.the-type T′.the-copy 𝓤 H A W) ys b o (λ q′.
+      looks-slice ! tt R (Is R) (shows 𝓤 H A R) vals (LL.tells T.the-type T′.the-laws) (LL.copy T.the-type T′.the-copy 𝓤 H A W) ys b o
+      (λ q′.
       -- [the row; the open borrow; the fractured one; true; res; the slice's facts; the numbers; the locals, from 7 on]
-      keep ! (0 ∷ 1 ∷ 7 ∷ 8 ∷ 9 ∷ 10 ∷ 11 ∷ 12 ∷ 13 ∷ 14 ∷ 15 ∷ 16 ∷ 17 ∷ 18 ∷ 19 ∷ 20 ∷ 21 ∷ 22 ∷ 23 ∷ 24 ∷ 25 ∷ 26 ∷ 27 ∷ 28 ∷ 2 ∷ 4 ∷ 5 ∷ []) $
-      into ! $ blocks ! $ loops ! 𝓣 Less falls (I 𝓣 room q′ l₀ l₁ l₂ l₃ l₄ l₅ l₆ l₇ l₈ l₉ l₁₀) (turns 𝓣 room q′ l₀ l₁ l₂ l₃ l₄ l₅ l₆ l₇ l₈ l₉ l₁₀)
+      keep !
+      (0 ∷ 1 ∷ 7 ∷ 8 ∷ 9 ∷ 10 ∷ 11 ∷ 12 ∷ 13 ∷ 14 ∷ 15 ∷ 16 ∷ 17 ∷ 18 ∷ 19 ∷ 20 ∷ 21 ∷ 22 ∷ 23 ∷ 24 ∷ 25 ∷ 26 ∷ 27 ∷ 28 ∷ 2 ∷ 4 ∷ 5 ∷ []) $
+      into ! $ blocks ! $ loops ! 𝓣 Less falls (I 𝓣 room q′ l₀ l₁ l₂ l₃ l₄ l₅ l₆ l₇ l₈ l₉ l₁₀)
+      (turns 𝓣 room q′ l₀ l₁ l₂ l₃ l₄ l₅ l₆ l₇ l₈ l₉ l₁₀)
       (record { k = 0; offset = first; small = gf; upto = omega arith; agrees = at-start first ys instant 0 first })))))))))))))
 
 module _ {M : Type 1} (𝓤 : URA M) (H : Heap 𝓤) (A : Atoms 𝓤) (W : Given 𝓤 H A) (mem : Memory → SProp 𝓤) (run : Routine → Fun 𝓤) (𝓣 : Tables 𝓤 H) where
   walks : Walks 𝓤 H A f.ended stayed (WpFn 𝓤 H (𝓣 .C) (𝓣 .Λ) code.function) (f.clauses 𝓤 H A mem run)
   walks =
-      walked 𝓤 H A f.ended stayed (f.clauses 𝓤 H A mem run) (WpFn 𝓤 H (𝓣 .C) (𝓣 .Λ) code.function) (λ κs. (slice-vals, (uint-vals w64, (uint-vals w64, tt))))
-      (λ κs. (shr-slice-tells (named 0) (κs .0) R, (uint-tells w64, (uint-tells w64, tt)))) (λ κs qs bounds a g are. via 𝓤 _ (fst∗ 𝓤 _ (emp 𝓤))
+      walked 𝓤 H A f.ended stayed (f.clauses 𝓤 H A mem run) (WpFn 𝓤 H (𝓣 .C) (𝓣 .Λ) code.function)
+      (λ κs. (slice-vals, (uint-vals w64, (uint-vals w64, tt))))
+      (λ κs. (shr-slice-tells (named 0) (κs .0) R, (uint-tells w64, (uint-tells w64, tt))))
+      (λ κs qs bounds a g are. via 𝓤 _ (fst∗ 𝓤 _ (emp 𝓤))
       (walk 𝓤 H A W mem run (κs .0) (qs .0) (a .0 .ptr .0) (a .0 .ptr .1) (a .0 .name) (a .0 .now) (a .1 .0) (a .1 .1 .0) (are .1 .0 .1) (are .1 .1 .0 .1) 𝓣 (are .0 .0 .1)))
 
   goes : AllGo 𝓤 H A W 1 (f.signature .params) (f.ended .kept) stayed

@@ -22,7 +22,12 @@ leap-requires c κs = search needs
 month-day-requires : tie.Need-month-day-requires
 month-day-requires c κs =
     let n = c .before .before .before .args .n in
-    omega (arith, ap (λ (p : YearDay). p .day) (c .before .year-day .ensures), year-day-holds n (omega arith) .short, year-length-range (yearDay n .year))
+    omega (
+      arith,
+      ap (λ (p : YearDay). p .day) (c .before .year-day .ensures),
+      year-day-holds n (omega arith) .short,
+      year-length-range (yearDay n .year),
+    )
 
 returns-2 : tie.Need-returns-2
 unfolding dateOf dateOfDay

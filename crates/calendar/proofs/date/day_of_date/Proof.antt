@@ -48,21 +48,32 @@ month-start-requires : tie.Need-month-start-requires
 month-start-requires c κs = search needs
 
 -- past every test the date is one of the range
-found : (c : tie.After-month-start) → let s = c .before .before .before .before .before .before .before .before in Valid (s .args .year) (s .args .month) (s .args .day)
+found : (c : tie.After-month-start)
+    → let s = c .before .before .before .before .before .before .before .before in Valid (s .args .year) (s .args .month) (s .args .day)
 found c =
     let s = c .before .before .before .before .before .before .before .before in
     record {
       first = c .before .before .before .before .before .before .before .if1 .left;
       last = c .before .before .before .before .before .before .if2 .left;
       low = c .before .before .before .before .before .if3 .left;
-      high = omega (arith, c .before .before .before .month-length .ensures, ap (λ (b : Bool). monthLength b (s .args .month)) (c .before .before .before .before .leap .ensures));
+      high = omega (
+        arith,
+        c .before .before .before .month-length .ensures,
+        ap (λ (b : Bool). monthLength b (s .args .month)) (c .before .before .before .before .leap .ensures),
+      );
     }
 
-whole : (c : tie.After-month-start) → let s = c .before .before .before .before .before .before .before .before in c .before .start .result + c .month-start .result + (s .args .day - 1) ≡ dayOf (s .args .year) (s .args .month) (s .args .day)
+whole : (c : tie.After-month-start)
+    → let s = c .before .before .before .before .before .before .before .before in c .before .start .result + c .month-start .result + (s .args .day - 1) ≡ dayOf (s .args .year) (s .args .month) (s .args .day)
 unfolding dayOf
 whole c =
     let s = c .before .before .before .before .before .before .before .before in
-    omega (arith, c .before .start .ensures, c .month-start .ensures, ap (λ (b : Bool). monthStart b (s .args .month)) (c .before .before .before .before .leap .ensures))
+    omega (
+      arith,
+      c .before .start .ensures,
+      c .month-start .ensures,
+      ap (λ (b : Bool). monthStart b (s .args .month)) (c .before .before .before .before .leap .ensures),
+    )
 
 add-t8 : tie.Need-add-t8
 add-t8 c = omega (arith, whole c, day-of-date-below _ _ _ (found c))

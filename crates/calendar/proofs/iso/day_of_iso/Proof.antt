@@ -50,13 +50,21 @@ week-one-requires : tie.Need-week-one-requires
 week-one-requires c κs = search needs
 
 -- a year's weeks end within the range, or a week past it
-room : (c : tie.After-week-one) → let s = c .before .before .before .before .before .before .before .before in c .week-one .result + 7 * (s .args .week - 1) + 7 ≤ 3652062
+room : (c : tie.After-week-one)
+    → let s = c .before .before .before .before .before .before .before .before in c .week-one .result + 7 * (s .args .week - 1) + 7 ≤ 3652062
 room c =
     let s = c .before .before .before .before .before .before .before .before in
     let y = s .args .year in
-    omega (arith, c .week-one .ensures, c .before .before .before .before .weeks .ensures, iso-weeks y (omega arith), iso-start-top (y + 1) (omega arith))
+    omega (
+      arith,
+      c .week-one .ensures,
+      c .before .before .before .before .weeks .ensures,
+      iso-weeks y (omega arith),
+      iso-start-top (y + 1) (omega arith),
+    )
 
-whole : (c : tie.After-week-one) → let s = c .before .before .before .before .before .before .before .before in c .week-one .result + 7 * (s .args .week - 1) + (s .args .weekday - 1) ≡ dayOfWeek (s .args .year) (s .args .week) (s .args .weekday)
+whole : (c : tie.After-week-one)
+    → let s = c .before .before .before .before .before .before .before .before in c .week-one .result + 7 * (s .args .week - 1) + (s .args .weekday - 1) ≡ dayOfWeek (s .args .year) (s .args .week) (s .args .weekday)
 unfolding dayOfWeek
 whole c = omega (arith, c .week-one .ensures)
 

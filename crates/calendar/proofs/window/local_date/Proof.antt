@@ -28,20 +28,32 @@ short true = omega arith
 short false = omega arith
 
 month-day-requires : tie.Need-month-day-requires
-month-day-requires c κs = omega (arith, c .start .ensures, in-window-year (c .before .before .args .n) (omega arith) .short, short (divides 4 (4 * c .before .before .args .n / 1461)))
+month-day-requires c κs =
+    omega (
+      arith,
+      c .start .ensures,
+      in-window-year (c .before .before .args .n) (omega arith) .short,
+      short (divides 4 (4 * c .before .before .args .n / 1461)),
+    )
 
 mul-t5 : tie.Need-mul-t5
 mul-t5 c = search needs
 
 sub-t7 : tie.Need-sub-t7
-sub-t7 c = rw (c .before .month-day .ensures, c .before .before .start .ensures) (local-place (c .before .before .before .before .args .n) (omega arith) .january)
+sub-t7 c =
+    rw (c .before .month-day .ensures, c .before .before .start .ensures)
+    (local-place (c .before .before .before .before .args .n) (omega arith) .january)
 
 add-t6 : tie.Need-add-t6
-add-t6 c = rw (c .before .month-day .ensures, c .before .before .start .ensures) (omega (arith, local-place (c .before .before .before .before .args .n) (omega arith) .december))
+add-t6 c =
+    rw (c .before .month-day .ensures, c .before .before .start .ensures)
+    (omega (arith, local-place (c .before .before .before .before .args .n) (omega arith) .december))
 
 returns-2 : tie.Need-returns-2
 unfolding localDate
-returns-2 c = rw (c .before .month-day .ensures, c .before .before .start .ensures) (simp (lt-ltb (c .before .before .before .before .args .n) 36525 (omega arith)))
+returns-2 c =
+    rw (c .before .month-day .ensures, c .before .before .start .ensures)
+    (simp (lt-ltb (c .before .before .before .before .args .n) 36525 (omega arith)))
 
 pub local-date-spec : {M : Type 1} → statement M
 local-date-spec =

@@ -23,7 +23,14 @@ month-start-requires c κs = search needs
 add-result : tie.Need-add-result
 add-result c =
     let k = c .before .before .before .args .month in
-    omega (arith, c .before .start .ensures, c .month-start .ensures, month-first-is k (omega arith), month-first-mono k 1200 (omega arith) (omega arith), month-first-end)
+    omega (
+      arith,
+      c .before .start .ensures,
+      c .month-start .ensures,
+      month-first-is k (omega arith),
+      month-first-mono k 1200 (omega arith) (omega arith),
+      month-first-end,
+    )
 
 returns-2 : tie.Need-returns-2
 returns-2 c =

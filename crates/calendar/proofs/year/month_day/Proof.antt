@@ -30,7 +30,8 @@ month-start-requires-2 c κs = search needs
 sub-t10 : tie.Need-sub-t10
 sub-t10 c =
     let s = c .before .before .before in
-    guessed-within (s .args .leap) (s .args .day) (s .pre) (c .before .before .month-start .result) (c .month-start2 .result) (c .before .before .month-start .ensures) (c .month-start2 .ensures) (c .before .if1 .left)
+    guessed-within (s .args .leap) (s .args .day) (s .pre) (c .before .before .month-start .result) (c .month-start2 .result)
+    (c .before .before .month-start .ensures) (c .month-start2 .ensures) (c .before .if1 .left)
 
 add-t11 : tie.Need-add-t11
 add-t11 c = search needs
@@ -38,7 +39,8 @@ add-t11 c = search needs
 returns-2 : tie.Need-returns-2
 returns-2 c =
     let s = c .before .before .before in
-    guessed-this (s .args .leap) (s .args .day) (s .pre) (c .before .before .month-start .result) (c .month-start2 .result) (c .before .before .month-start .ensures) (c .month-start2 .ensures) (c .before .if1 .left)
+    guessed-this (s .args .leap) (s .args .day) (s .pre) (c .before .before .month-start .result) (c .month-start2 .result)
+    (c .before .before .month-start .ensures) (c .month-start2 .ensures) (c .before .if1 .left)
 
 pub month-day-spec : {M : Type 1} → statement M
 month-day-spec =

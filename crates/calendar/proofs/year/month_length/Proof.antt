@@ -21,12 +21,22 @@ month-start-requires-2 c κs = search needs
 sub-result : tie.Need-sub-result
 sub-result c =
     let s = c .before .before .before in
-    omega (arith, c .month-start2 .ensures, c .before .month-start .ensures, month-start-next (s .args .leap) (s .args .month) (c .before .before .if1 .left))
+    omega (
+      arith,
+      c .month-start2 .ensures,
+      c .before .month-start .ensures,
+      month-start-next (s .args .leap) (s .args .month) (c .before .before .if1 .left),
+    )
 
 returns-2 : tie.Need-returns-2
 returns-2 c =
     let s = c .before .before .before in
-    omega (arith, c .month-start2 .ensures, c .before .month-start .ensures, month-start-next (s .args .leap) (s .args .month) (c .before .before .if1 .left))
+    omega (
+      arith,
+      c .month-start2 .ensures,
+      c .before .month-start .ensures,
+      month-start-next (s .args .leap) (s .args .month) (c .before .before .if1 .left),
+    )
 
 pub month-length-spec : {M : Type 1} → statement M
 month-length-spec =

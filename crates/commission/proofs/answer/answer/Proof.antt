@@ -48,7 +48,8 @@ returns-2 c =
     let a = start .args in
     let r = c .before .before .before .before .before .compile in
     let is = c .before .compiled .given in
-    let p = planned (now (a .sheet)) (now (a .more)) (now (a .out)) (c .before .before .before .before .before .before .before .if1 .left) (start .pre .0) _ (is .0 .0) (sym (is .1) ∙ r .ensures .0) (r .ensures .1) in
+    let p =
+    planned (now (a .sheet)) (now (a .more)) (now (a .out)) (c .before .before .before .before .before .before .before .if1 .left) (start .pre .0) _ (is .0 .0) (sym (is .1) ∙ r .ensures .0) (r .ensures .1) in
     ((p .0, sym (length-take-le (is .0 .0) _ (p .0))), p .1)
 
 same-length-3 : tie.Need-same-length-3

@@ -20,7 +20,10 @@ slice-aggregate-append : tie.Need-slice-aggregate-append
 slice-aggregate-append c = search needs
 
 append-requires : tie.Need-append-requires
-append-requires c κs = let d = c .before .before .decimal in let a = c .before .before .before .before .before in omega (arith, d .ensures .0 .1, twenty (d .result) (a .args .n) (a .fits .n .fits) (d .ensures .1 .0))
+append-requires c κs =
+    let d = c .before .before .decimal in
+    let a = c .before .before .before .before .before in
+    omega (arith, d .ensures .0 .1, twenty (d .result) (a .args .n) (a .fits .n .fits) (d .ensures .1 .0))
 
 same-length : tie.Need-same-length
 same-length c = search needs

@@ -32,12 +32,15 @@ same-length c = search needs
 
 returns : tie.Need-returns
 returns c =
-    let a = c .before .before .before .before .before .before .before .before .before .before .before .before .before .before .before .before .before .before .before .args in
-    let n = c .before .before .before .before .before .before .before .before .before .before .before .before .before .before .before .before .append-number in
+    let a =
+    c .before .before .before .before .before .before .before .before .before .before .before .before .before .before .before .before .before .before .before .args in
+    let n =
+    c .before .before .before .before .before .before .before .before .before .before .before .before .before .before .before .before .append-number in
     let s = c .before .before .before .before .before .before .before .before .before .before .before .append in
     let l = c .before .before .before .before .before .before .before .append-number2 in
     let e = c .before .before .append2 in
-    let short : e .result ≤ length (e .last .0) = omega (arith, n .ensures .0, s .ensures .0, l .ensures .0, e .ensures .0, n .kept .0, s .kept .0, l .kept .0, e .kept .0) in (
+    let short : e .result ≤ length (e .last .0) =
+    omega (arith, n .ensures .0, s .ensures .0, l .ensures .0, e .ensures .0, n .kept .0, s .kept .0, l .kept .0, e .kept .0) in (
       (short, sym (length-take-le (e .result) (e .last .0) short)),
       refusal-joined (a .number) (a .line) (n .ensures .1) (s .ensures .1) (l .ensures .1) (e .ensures .1),
     )

@@ -11,7 +11,9 @@ one-more-requires : tie.Need-one-more-requires
 one-more-requires c κs = both-true _ _ (c .pre) .0
 
 add-t5 : tie.Need-add-t5
-add-t5 c = let a = c .before .before .args in omega (arith, leb-true (a .t .at) 52597439 (both-true (roomFor (a .c .before)) _ (c .before .before .pre) .1))
+add-t5 c =
+    let a = c .before .before .args in
+    omega (arith, leb-true (a .t .at) 52597439 (both-true (roomFor (a .c .before)) _ (c .before .before .pre) .1))
 
 returns : tie.Need-returns
 returns c = rw (c .before .one-more .ensures) refl

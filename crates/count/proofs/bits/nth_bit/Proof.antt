@@ -10,7 +10,8 @@ use Rattle.count.proofs.bits.nth_bit.Statement.{statement}
 use Rattle.count.proofs.bits.nth_bit.Tie as tie
 
 abbrev Inv-loop : tie.InvT-loop
-Inv-loop mask n count at₀ left₀ at left = (at ≤ 64) × (1 ≤ left) × (nthFrom (bit mask) count (64 - n) n ≡ nthFrom (bit mask) left (64 - at) at)
+Inv-loop mask n count at₀ left₀ at left =
+    (at ≤ 64) × (1 ≤ left) × (nthFrom (bit mask) count (64 - n) n ≡ nthFrom (bit mask) left (64 - at) at)
 
 abbrev μ-loop : tie.MeasureT-loop
 μ-loop mask n count at₀ left₀ at left = left

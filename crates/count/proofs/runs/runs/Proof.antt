@@ -26,7 +26,8 @@ add-at c = omega arith
 
 loop-holds : tie.Need-loop-holds Inv-loop μ-loop
 loop-holds c = let a = c .before .before .args in
-    rw (c .span .ensures, c .before .minus .ensures) (kept-first (a .mask) (a .n) (a .x) (a .width) (a .turn) (a .len) (c .before .before .pre))
+    rw (c .span .ensures, c .before .minus .ensures)
+    (kept-first (a .mask) (a .n) (a .x) (a .width) (a .turn) (a .len) (c .before .before .pre))
 
 span-requires-2 : tie.Need-span-requires-2 Inv-loop μ-loop
 span-requires-2 c κs = omega arith

@@ -56,7 +56,12 @@ add-runs : tie.Need-add-runs
 add-runs c = search needs
 
 rem-runs : tie.Need-rem-runs
-rem-runs c = omega (arith, c .before .turn .ensures .room, width-range (now (c .before .before .before .before .before .before .before .before .args .f)) .0)
+rem-runs c =
+    omega (
+      arith,
+      c .before .turn .ensures .room,
+      width-range (now (c .before .before .before .before .before .before .before .before .args .f)) .0,
+    )
 
 runs-requires : tie.Need-runs-requires
 runs-requires c κs = let s = c .before .before .before .before .before .before .before .before in
@@ -87,7 +92,8 @@ returns-2 c = let s = c .before .before .before .before .before .before .before 
     let len = c .before .before .before .before .before .before .before .month-days .ensures in
     let from = c .before .before .before .before .before .larger in
     let width = c .before .before .before .width .ensures in
-    counted-held l k (s .args .set) (s .pre .2) (s .pre .1) (from .result) (c .before .before .turn .result) (c .runs .result) (c .before .before .turn .ensures)
+    counted-held l k (s .args .set) (s .pre .2) (s .pre .1) (from .result) (c .before .before .turn .result) (c .runs .result)
+    (c .before .before .turn .ensures)
     (rw first at (from .ensures)) (rw (first, len, c .before .place .ensures, width) at (c .runs .ensures))
 
 pub counted-set-spec : {M : Type 1} → statement M

@@ -8,7 +8,9 @@ use Rattle.count.proofs.turns.stride.Statement.{statement}
 use Rattle.count.proofs.turns.stride.Tie as tie
 
 returns : tie.Need-returns
-returns c = record { low = omega arith; high = omega arith; same = λ x h. ap (λ (y : ℕ). x % y) (c .if1 .taken) ∙ mod-zero x ∙ sym (mod-eq-of-lt (omega arith)) }
+returns c =
+    record
+    { low = omega arith; high = omega arith; same = λ x h. ap (λ (y : ℕ). x % y) (c .if1 .taken) ∙ mod-zero x ∙ sym (mod-eq-of-lt (omega arith)) }
 
 returns-2 : tie.Need-returns-2
 returns-2 c = record { low = omega arith; high = omega arith; same = λ x h. mod-eq-of-lt (omega arith) ∙ sym (mod-eq-of-lt (omega arith)) }

@@ -30,7 +30,8 @@ mul-result : tie.Need-mul-result
 mul-result c = search needs
 
 returns-2 : tie.Need-returns-2
-returns-2 c = weekly-turn (now (c .before .before .before .before .before .before .args .f)) _ (c .stride2 .ensures) (c .before .before .if2 .taken)
+returns-2 c =
+    weekly-turn (now (c .before .before .before .before .before .before .args .f)) _ (c .stride2 .ensures) (c .before .before .if2 .taken)
 
 returns-3 : tie.Need-returns-3
 returns-3 c = every-turn (now (c .before .before .before .before .args .f)) (c .before .before .if1 .left) (c .if2 .left)

@@ -163,8 +163,10 @@ back-from-day-returns-2 t c = let s = c .before .before .before .before .before 
     let a = s .args in
     let p = s .pre .1 in
     let k = c .before .before .before .before .before .local-date .result .month in
-    let w : Down (now (a .f)) k (a .d) = rw (c .before .before .before .before .before .local-date .ensures) (down-at (now (a .f)) (a .d) (p .0) (p .1) (p .2)) in
-    let z : SetOf (dayPart (now (a .f))) (dayHeld (now (a .f))) k 0 = rw (c .before .before .before .if1 .left) at (c .before .before .before .before .month-mask .ensures) in
+    let w : Down (now (a .f)) k (a .d) =
+    rw (c .before .before .before .before .before .local-date .ensures) (down-at (now (a .f)) (a .d) (p .0) (p .1) (p .2)) in
+    let z : SetOf (dayPart (now (a .f))) (dayHeld (now (a .f))) k 0 =
+    rw (c .before .before .before .if1 .left) at (c .before .before .before .before .month-mask .ensures) in
     last-month-passed-back (now (a .f)) k (a .d) w z (c .before .if2 .taken)
 
 back-from-day-sub-month-back : (t : ℕ) → back-from-day-lts.Need-sub-month-back (
@@ -193,7 +195,8 @@ back-from-day-month-back-requires t c κs = let s = c .before .before .before .b
     let a = s .args in
     let p = s .pre .1 in
     let k = c .before .before .before .before .local-date .result .month in
-    let w : Down (now (a .f)) k (a .d) = rw (c .before .before .before .before .local-date .ensures) (down-at (now (a .f)) (a .d) (p .0) (p .1) (p .2)) in (
+    let w : Down (now (a .f)) k (a .d) =
+    rw (c .before .before .before .before .local-date .ensures) (down-at (now (a .f)) (a .d) (p .0) (p .1) (p .2)) in (
       omega (arith, s .pre .0, p .1, w .here .from, down-end (now (a .f)) k (a .d) w (c .if2 .left)),
       down-month (now (a .f)) k (a .d) w (c .if2 .left),
     )
@@ -212,8 +215,10 @@ back-from-day-returns-3 t c = let s = c .before .before .before .before .before 
     let a = s .args in
     let p = s .pre .1 in
     let k = c .before .before .before .before .before .local-date .result .month in
-    let w : Down (now (a .f)) k (a .d) = rw (c .before .before .before .before .before .local-date .ensures) (down-at (now (a .f)) (a .d) (p .0) (p .1) (p .2)) in
-    let z : SetOf (dayPart (now (a .f))) (dayHeld (now (a .f))) k 0 = rw (c .before .before .before .if1 .left) at (c .before .before .before .before .month-mask .ensures) in
+    let w : Down (now (a .f)) k (a .d) =
+    rw (c .before .before .before .before .before .local-date .ensures) (down-at (now (a .f)) (a .d) (p .0) (p .1) (p .2)) in
+    let z : SetOf (dayPart (now (a .f))) (dayHeld (now (a .f))) k 0 =
+    rw (c .before .before .before .if1 .left) at (c .before .before .before .before .month-mask .ensures) in
     month-passed-back (now (a .f)) k (a .d) w z (c .before .if2 .left) _ (c .month-back .ensures)
 
 day-back-day-test-requires : (t : ℕ) → day-back-lts.Need-day-test-requires (
@@ -258,7 +263,8 @@ day-back-returns t c = let s = c .before .before in
     let a = s .args in
     let p = s .pre .1 in
     let e : a .d + 1 - 1 ≡ a .d = omega arith in
-    last-here (dayHeld (now (a .f))) (getD (now (a .f)) 14 0) (a .d + 1) (omega (arith, p .0 .after)) (rw e (sym (c .before .day-test .ensures) ∙ c .if1 .taken))
+    last-here (dayHeld (now (a .f))) (getD (now (a .f)) 14 0) (a .d + 1) (omega (arith, p .0 .after))
+    (rw e (sym (c .before .day-test .ensures) ∙ c .if1 .taken))
 
 day-back-counted-before-requires : (t : ℕ) → day-back-lts.Need-counted-before-requires (
   day-test-reads.Asked,
@@ -408,7 +414,8 @@ day-back-returns-3 t c = let s = c .before .before .before .before .before .befo
     let a = s .args in
     let p = s .pre .1 in
     let l = now (a .f) in
-    let out = sym (c .before .before .before .before .before .before .day-test .ensures) ∙ c .before .before .before .before .before .if1 .left in
+    let out =
+    sym (c .before .before .before .before .before .before .day-test .ensures) ∙ c .before .before .before .before .before .if1 .left in
     let passed = c .before .before .before .before .counted-before .ensures in
     passed-back (dayHeld l) (getD l 14 0) _ (a .d) out passed (p .0 .after) (small (a .k) (a .n) (a .d) (p .1) (p .2) .0) _ (c .before .before .if2 .left) (c .day-back .ensures)
 
@@ -456,7 +463,8 @@ day-back-returns-4 t c = let s = c .before .before .before .before .before .befo
     let a = s .args in
     let p = s .pre .1 in
     let l = now (a .f) in
-    let out = sym (c .before .before .before .before .before .before .day-test .ensures) ∙ c .before .before .before .before .before .if1 .left in
+    let out =
+    sym (c .before .before .before .before .before .before .day-test .ensures) ∙ c .before .before .before .before .before .if1 .left in
     let passed = c .before .before .before .before .counted-before .ensures in
     passed-back (dayHeld l) (getD l 14 0) _ (a .d) out passed (p .0 .after) (small (a .k) (a .n) (a .d) (p .1) (p .2) .0) _ (c .before .before .if2 .left) (c .back-from-day .ensures)
 
@@ -571,7 +579,8 @@ month-back-returns t c = let s = c .before .before .before .before .before in
     let e = c .before .month-first .ensures in
     let n = c .before .before .month-days .ensures in
     let r = month-days-range (a .k) (s .pre .1 .here .month) .0 in
-    let q : c .before .month-first .result + c .before .before .month-days .result - 1 + 1 ≡ monthFirst (a .k) + monthDays (a .k) = omega (arith, e, n, r) in
+    let q : c .before .month-first .result + c .before .before .month-days .result - 1 + 1 ≡ monthFirst (a .k) + monthDays (a .k) =
+    omega (arith, e, n, r) in
     rw q at (c .day-back .ensures)
 
 month-back-element-copy-out-if2 : (t : ℕ) → month-back-lts.Need-element-copy-out-if2 (
@@ -617,8 +626,10 @@ month-back-returns-2 : (t : ℕ) → month-back-lts.Need-returns-2 (
 month-back-returns-2 t c = let s = c .before .before .before .before .before in
     let a = s .args in
     let p = s .pre .1 in
-    let z : SetOf (dayPart (now (a .f))) (dayHeld (now (a .f))) (a .k) 0 = rw (c .before .before .before .if1 .left) at (c .before .before .before .before .passing-mask .ensures) in
-    let q : monthFirst (a .k) + monthDays (a .k) - 1 + 1 ≡ monthFirst (a .k) + monthDays (a .k) = omega (arith, month-days-range (a .k) (p .here .month) .0) in
+    let z : SetOf (dayPart (now (a .f))) (dayHeld (now (a .f))) (a .k) 0 =
+    rw (c .before .before .before .if1 .left) at (c .before .before .before .before .passing-mask .ensures) in
+    let q : monthFirst (a .k) + monthDays (a .k) - 1 + 1 ≡ monthFirst (a .k) + monthDays (a .k) =
+    omega (arith, month-days-range (a .k) (p .here .month) .0) in
     rw q at (last-month-passed-back (now (a .f)) (a .k) (monthFirst (a .k) + monthDays (a .k) - 1) p z (c .before .if2 .taken))
 
 month-back-sub-month-back : (t : ℕ) → month-back-lts.Need-sub-month-back (
@@ -670,8 +681,10 @@ month-back-returns-3 : (t : ℕ) → month-back-lts.Need-returns-3 (
 month-back-returns-3 t c = let s = c .before .before .before .before .before in
     let a = s .args in
     let p = s .pre .1 in
-    let z : SetOf (dayPart (now (a .f))) (dayHeld (now (a .f))) (a .k) 0 = rw (c .before .before .before .if1 .left) at (c .before .before .before .before .passing-mask .ensures) in
-    let q : monthFirst (a .k) + monthDays (a .k) - 1 + 1 ≡ monthFirst (a .k) + monthDays (a .k) = omega (arith, month-days-range (a .k) (p .here .month) .0) in
+    let z : SetOf (dayPart (now (a .f))) (dayHeld (now (a .f))) (a .k) 0 =
+    rw (c .before .before .before .if1 .left) at (c .before .before .before .before .passing-mask .ensures) in
+    let q : monthFirst (a .k) + monthDays (a .k) - 1 + 1 ≡ monthFirst (a .k) + monthDays (a .k) =
+    omega (arith, month-days-range (a .k) (p .here .month) .0) in
     rw q at (month-passed-back (now (a .f)) (a .k) (monthFirst (a .k) + monthDays (a .k) - 1) p z (c .before .if2 .left) _ (c .month-back .ensures))
 
 pub +back-from-day+day-back+month-back-spec : {M : Type 1} → statement M

@@ -29,7 +29,12 @@ period-requires-2 c κs = search needs
 sub-over-whole : tie.Need-sub-over-whole
 sub-over-whole c = let s = c .before .before .before .before in
     let a = s .args in
-    omega (arith, c .before .period .ensures, c .period2 .ensures, period-rises (a .weekly) (getD (now (a .f)) 3 0 / 1440) (a .d - 1) (omega arith))
+    omega (
+      arith,
+      c .before .period .ensures,
+      c .period2 .ensures,
+      period-rises (a .weekly) (getD (now (a .f)) 3 0 / 1440) (a .d - 1) (omega arith),
+    )
 
 element-copy-out-over-whole : tie.Need-element-copy-out-over-whole
 element-copy-out-over-whole c = search needs

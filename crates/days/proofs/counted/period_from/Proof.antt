@@ -28,7 +28,12 @@ period-requires-2 c κs = search needs
 sub-over-whole : tie.Need-sub-over-whole
 sub-over-whole c = let s = c .before .before .before .before .before in
     let a = s .args in
-    omega (arith, c .before .before .period .ensures, c .period2 .ensures, period-rises (a .weekly) (getD (now (a .f)) 3 0 / 1440) (a .d) (omega arith))
+    omega (
+      arith,
+      c .before .before .period .ensures,
+      c .period2 .ensures,
+      period-rises (a .weekly) (getD (now (a .f)) 3 0 / 1440) (a .d) (omega arith),
+    )
 
 over-whole-requires : tie.Need-over-whole-requires
 over-whole-requires c κs = search needs
@@ -61,7 +66,8 @@ returns-4 c = let s = c .before .before .before .before .before .before .before 
 
 add-begin : tie.Need-add-begin
 add-begin c = let s = c .before .before .before .before .before .before .before .before .before in
-    omega (arith, c .before .before .before .before .before .before .period .ensures, period-small (s .args .weekly) (s .args .d) (s .pre .0))
+    omega
+    (arith, c .before .before .before .before .before .before .period .ensures, period-small (s .args .weekly) (s .args .d) (s .pre .0))
 
 sub-begin : tie.Need-sub-begin
 sub-begin c = search needs

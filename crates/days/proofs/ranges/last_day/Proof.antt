@@ -36,7 +36,8 @@ back-from-day-requires c κs = let a = c .before .before .before .before .before
     let end = c .before .before .before .before .lesser in
     let r = c .before .ready in
     let n : length (r .result) ≡ 16 = search needs in
-    let e = r .ensures ∙ ap (λ (k : ℕ). readied (now (a .f)) k (a .low)) (ap (λ (q : MonthDay). q .month) (c .before .before .local-date .ensures)) in
+    let e =
+    r .ensures ∙ ap (λ (k : ℕ). readied (now (a .f)) k (a .low)) (ap (λ (q : MonthDay). q .month) (c .before .before .local-date .ensures)) in
     rw e (walk-down (now (a .f)) (a .low) (end .result) (omega arith) (omega (arith, end .ensures)) (rw e at n))
 
 returns-2 : tie.Need-returns-2
@@ -45,7 +46,9 @@ returns-2 c = let a = c .before .before .before .before .before .before .args in
     let end = c .before .before .before .before .before .lesser in
     let r = c .before .before .ready in
     let n : length (r .result) ≡ 16 = search needs in
-    let e = r .ensures ∙ ap (λ (k : ℕ). readied (now (a .f)) k (a .low)) (ap (λ (q : MonthDay). q .month) (c .before .before .before .local-date .ensures)) in
+    let e =
+    r .ensures
+    ∙ ap (λ (k : ℕ). readied (now (a .f)) k (a .low)) (ap (λ (q : MonthDay). q .month) (c .before .before .before .local-date .ensures)) in
     rw (← end .ensures)
     (last-is (dayHeld (now (a .f))) (a .low) (end .result) _ (omega arith)
     (found-down (now (a .f)) (a .low) (end .result) (omega arith) (omega (arith, end .ensures)) (rw e at n) _ (rw e at (c .back-from-day .ensures))))

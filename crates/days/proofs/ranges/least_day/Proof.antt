@@ -39,7 +39,9 @@ from-day-requires c κs = let a = c .before .before .before .before .before .arg
     let end = c .before .before .before .before .lesser in
     let r = c .before .ready in
     let n : length (r .result) ≡ 16 = search needs in
-    let e = r .ensures ∙ ap (λ (k : ℕ). readied (now (a .f)) k (end .result - 1)) (ap (λ (q : MonthDay). q .month) (c .before .before .local-date .ensures)) in
+    let e =
+    r .ensures
+    ∙ ap (λ (k : ℕ). readied (now (a .f)) k (end .result - 1)) (ap (λ (q : MonthDay). q .month) (c .before .before .local-date .ensures)) in
     rw e (walk-up (now (a .f)) (a .low) (end .result) (omega arith) (omega (arith, end .ensures)) (rw e at n))
 
 returns-2 : tie.Need-returns-2
@@ -48,7 +50,10 @@ returns-2 c = let a = c .before .before .before .before .before .before .args in
     let end = c .before .before .before .before .before .lesser in
     let r = c .before .before .ready in
     let n : length (r .result) ≡ 16 = search needs in
-    let e = r .ensures ∙ ap (λ (k : ℕ). readied (now (a .f)) k (end .result - 1)) (ap (λ (q : MonthDay). q .month) (c .before .before .before .local-date .ensures)) in
+    let e =
+    r .ensures
+    ∙ ap (λ (k : ℕ). readied (now (a .f)) k (end .result - 1))
+    (ap (λ (q : MonthDay). q .month) (c .before .before .before .local-date .ensures)) in
     rw (← end .ensures)
     (least-is (dayHeld (now (a .f))) (a .low) (end .result) _ (omega arith)
     (found-up (now (a .f)) (a .low) (end .result) (omega arith) (omega (arith, end .ensures)) (rw e at n) _ (rw e at (c .from-day .ensures))))

@@ -91,7 +91,8 @@ day-step-returns : (t : ℕ) → day-step-lts.Need-returns (
 day-step-returns t c = let s = c .before .before in
     let a = s .args in
     let p = s .pre .1 in
-    least-here (dayHeld (now (a .f))) (a .d) (getD (now (a .f)) 14 0 + 1) (omega (arith, p .0 .before)) (sym (c .before .day-test .ensures) ∙ c .if1 .taken)
+    least-here (dayHeld (now (a .f))) (a .d) (getD (now (a .f)) 14 0 + 1) (omega (arith, p .0 .before))
+    (sym (c .before .day-test .ensures) ∙ c .if1 .taken)
 
 day-step-add-counted-from : (t : ℕ) → day-step-lts.Need-add-counted-from (
   day-test-reads.Asked,
@@ -261,7 +262,8 @@ day-step-returns-3 t c = let s = c .before .before .before .before .before .befo
     let a = s .args in
     let p = s .pre .1 in
     let l = now (a .f) in
-    let out = sym (c .before .before .before .before .before .before .day-test .ensures) ∙ c .before .before .before .before .before .if1 .left in
+    let out =
+    sym (c .before .before .before .before .before .before .day-test .ensures) ∙ c .before .before .before .before .before .if1 .left in
     let passed = c .before .before .before .before .counted-from .ensures in
     passed-on (dayHeld l) (a .d) _ (getD l 14 0) out passed (p .0 .before) (last-day-top l (p .0 .ready)) _ (c .before .before .if2 .left) (c .day-step .ensures)
 
@@ -297,7 +299,8 @@ day-step-returns-4 t c = let s = c .before .before .before .before .before .befo
     let a = s .args in
     let p = s .pre .1 in
     let l = now (a .f) in
-    let out = sym (c .before .before .before .before .before .before .day-test .ensures) ∙ c .before .before .before .before .before .if1 .left in
+    let out =
+    sym (c .before .before .before .before .before .before .day-test .ensures) ∙ c .before .before .before .before .before .if1 .left in
     let passed = c .before .before .before .before .counted-from .ensures in
     passed-on (dayHeld l) (a .d) _ (getD l 14 0) out passed (p .0 .before) (last-day-top l (p .0 .ready)) _ (c .before .before .if2 .left) (c .from-day .ensures)
 
@@ -437,8 +440,10 @@ from-day-returns-2 t c = let s = c .before .before .before .before .before .befo
     let a = s .args in
     let p = s .pre .1 in
     let k = c .before .before .before .before .before .local-date .result .month in
-    let u : Up (now (a .f)) k (a .d) = rw (c .before .before .before .before .before .local-date .ensures) (up-at (now (a .f)) (a .d) (p .0) (p .1)) in
-    let z : SetOf (dayPart (now (a .f))) (dayHeld (now (a .f))) k 0 = rw (c .before .before .before .if1 .left) at (c .before .before .before .before .month-mask .ensures) in
+    let u : Up (now (a .f)) k (a .d) =
+    rw (c .before .before .before .before .before .local-date .ensures) (up-at (now (a .f)) (a .d) (p .0) (p .1)) in
+    let z : SetOf (dayPart (now (a .f))) (dayHeld (now (a .f))) k 0 =
+    rw (c .before .before .before .if1 .left) at (c .before .before .before .before .month-mask .ensures) in
     last-month-passed (now (a .f)) k (a .d) u z (c .before .if2 .taken)
 
 from-day-add-month-step : (t : ℕ) → from-day-lts.Need-add-month-step (
@@ -472,7 +477,8 @@ from-day-month-step-requires t c κs = let s = c .before .before .before .before
     let a = s .args in
     let p = s .pre .1 in
     let k = c .before .before .before .before .local-date .result .month in
-    let u : Up (now (a .f)) k (a .d) = rw (c .before .before .before .before .local-date .ensures) (up-at (now (a .f)) (a .d) (p .0) (p .1)) in (
+    let u : Up (now (a .f)) k (a .d) =
+    rw (c .before .before .before .before .local-date .ensures) (up-at (now (a .f)) (a .d) (p .0) (p .1)) in (
       omega (arith, s .pre .0, p .1, u .here .to, month-first-next k (u .here .month)),
       up-month (now (a .f)) k (a .d) u (c .if2 .left),
     )
@@ -493,8 +499,10 @@ from-day-returns-3 t c = let s = c .before .before .before .before .before .befo
     let a = s .args in
     let p = s .pre .1 in
     let k = c .before .before .before .before .before .local-date .result .month in
-    let u : Up (now (a .f)) k (a .d) = rw (c .before .before .before .before .before .local-date .ensures) (up-at (now (a .f)) (a .d) (p .0) (p .1)) in
-    let z : SetOf (dayPart (now (a .f))) (dayHeld (now (a .f))) k 0 = rw (c .before .before .before .if1 .left) at (c .before .before .before .before .month-mask .ensures) in
+    let u : Up (now (a .f)) k (a .d) =
+    rw (c .before .before .before .before .before .local-date .ensures) (up-at (now (a .f)) (a .d) (p .0) (p .1)) in
+    let z : SetOf (dayPart (now (a .f))) (dayHeld (now (a .f))) k 0 =
+    rw (c .before .before .before .if1 .left) at (c .before .before .before .before .month-mask .ensures) in
     month-passed (now (a .f)) k (a .d) u z _ (c .month-step .ensures)
 
 month-step-passing-mask-requires : (t : ℕ) → month-step-lts.Need-passing-mask-requires (
@@ -630,7 +638,8 @@ month-step-returns-2 : (t : ℕ) → month-step-lts.Need-returns-2 (
 ) (month-step-at t) month-step.Post
 month-step-returns-2 t c = let s = c .before .before .before .before .before in
     let a = s .args in
-    let z : SetOf (dayPart (now (a .f))) (dayHeld (now (a .f))) (a .k) 0 = rw (c .before .before .before .if1 .left) at (c .before .before .before .before .passing-mask .ensures) in
+    let z : SetOf (dayPart (now (a .f))) (dayHeld (now (a .f))) (a .k) 0 =
+    rw (c .before .before .before .if1 .left) at (c .before .before .before .before .passing-mask .ensures) in
     last-month-passed (now (a .f)) (a .k) (monthFirst (a .k)) (s .pre .1) z (c .before .if2 .taken)
 
 month-step-add-month-step : (t : ℕ) → month-step-lts.Need-add-month-step (
@@ -681,7 +690,8 @@ month-step-returns-3 : (t : ℕ) → month-step-lts.Need-returns-3 (
 ) (month-step-at t) month-step.Post
 month-step-returns-3 t c = let s = c .before .before .before .before .before in
     let a = s .args in
-    let z : SetOf (dayPart (now (a .f))) (dayHeld (now (a .f))) (a .k) 0 = rw (c .before .before .before .if1 .left) at (c .before .before .before .before .passing-mask .ensures) in
+    let z : SetOf (dayPart (now (a .f))) (dayHeld (now (a .f))) (a .k) 0 =
+    rw (c .before .before .before .if1 .left) at (c .before .before .before .before .passing-mask .ensures) in
     month-passed (now (a .f)) (a .k) (monthFirst (a .k)) (s .pre .1) z _ (c .month-step .ensures)
 
 pub +day-step+from-day+month-step-spec : {M : Type 1} → statement M

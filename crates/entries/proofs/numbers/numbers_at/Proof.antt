@@ -18,7 +18,8 @@ use Rattle.entries.proofs.numbers.numbers_at.Statement.{statement}
 use Rattle.entries.proofs.numbers.numbers_at.Tie as tie
 
 abbrev Inv-loop : tie.InvT-loop
-Inv-loop s at₀ m₀ at m = takenAs takeNumber numbersIs Listed.Not m (listAt (λ (e : ℕ). signedRead (signedAt s e)) 44 s (length s + 1) at) ≡ numbersAs (numbersRead s at₀)
+Inv-loop s at₀ m₀ at m =
+    takenAs takeNumber numbersIs Listed.Not m (listAt (λ (e : ℕ). signedRead (signedAt s e)) 44 s (length s + 1) at) ≡ numbersAs (numbersRead s at₀)
 
 abbrev μ-loop : tie.MeasureT-loop
 μ-loop s at₀ m₀ at m = length s - at
@@ -37,7 +38,10 @@ enum-told c = search needs
 
 returns : tie.Need-returns Inv-loop μ-loop
 returns c = let a = c .before .before .before .before .before .args in
-    loop-not (λ (e : ℕ). signedRead (signedAt (now (a .s)) e)) 44 (now (a .s)) (omega arith) (λ at x e. signed-after (now (a .s)) at x e) takeNumber numbersIs Listed.Not (c .before .before .before .loop .m) (c .before .before .before .loop .at) (rw (sym (c .before .before .signed .ensures) ∙ c .enum-told .given .1) refl) ∙ c .before .before .before .loop .inv
+    loop-not (λ (e : ℕ). signedRead (signedAt (now (a .s)) e)) 44 (now (a .s)) (omega arith) (λ at x e. signed-after (now (a .s)) at x e)
+    takeNumber numbersIs Listed.Not (c .before .before .before .loop .m) (c .before .before .before .loop .at)
+    (rw (sym (c .before .before .signed .ensures) ∙ c .enum-told .given .1) refl)
+    ∙ c .before .before .before .loop .inv
 
 with-number-requires : tie.Need-with-number-requires Inv-loop μ-loop
 with-number-requires c κs = search needs
@@ -47,19 +51,27 @@ byte-requires c κs = search needs
 
 returns-2 : tie.Need-returns-2 Inv-loop μ-loop
 returns-2 c = let a = c .before .before .before .before .before .before .before .before .before .args in
-    rw (c .before .before .with-number .ensures) (loop-last (λ (e : ℕ). signedRead (signedAt (now (a .s)) e)) 44 (now (a .s)) (omega arith) (λ at x e. signed-after (now (a .s)) at x e) takeNumber numbersIs Listed.Not (c .before .before .before .before .before .before .before .loop .m) (c .before .before .before .before .before .before .before .loop .at) _ _ (ap signedRead (sym (c .before .before .before .before .before .before .signed .ensures) ∙ c .before .before .before .before .minus .given .1)) (λ q. c .if1 .taken (c .before .byte .ensures ∙ q)) ∙ c .before .before .before .before .before .before .before .loop .inv)
+    rw (c .before .before .with-number .ensures)
+    (loop-last (λ (e : ℕ). signedRead (signedAt (now (a .s)) e)) 44 (now (a .s)) (omega arith) (λ at x e. signed-after (now (a .s)) at x e) takeNumber numbersIs Listed.Not (c .before .before .before .before .before .before .before .loop .m) (c .before .before .before .before .before .before .before .loop .at) _ _ (ap signedRead (sym (c .before .before .before .before .before .before .signed .ensures) ∙ c .before .before .before .before .minus .given .1)) (λ q. c .if1 .taken (c .before .byte .ensures ∙ q)) ∙ c .before .before .before .before .before .before .before .loop .inv)
 
 add-at : tie.Need-add-at Inv-loop μ-loop
 add-at c = let a = c .before .before .before .before .before .before .before .before .before .before .args in
-    omega (arith, loop-on (λ (e : ℕ). signedRead (signedAt (now (a .s)) e)) 44 (now (a .s)) (omega arith) (λ at x e. signed-after (now (a .s)) at x e) takeNumber numbersIs Listed.Not (c .before .before .before .before .before .before .before .before .loop .m) (c .before .before .before .before .before .before .before .before .loop .at) _ _ (ap signedRead (sym (c .before .before .before .before .before .before .before .signed .ensures) ∙ c .before .before .before .before .before .minus .given .1)) (sym (c .before .before .byte .ensures) ∙ c .before .if1 .left))
+    omega (
+      arith,
+      loop-on (λ (e : ℕ). signedRead (signedAt (now (a .s)) e)) 44 (now (a .s)) (omega arith) (λ at x e. signed-after (now (a .s)) at x e) takeNumber numbersIs Listed.Not (c .before .before .before .before .before .before .before .before .loop .m) (c .before .before .before .before .before .before .before .before .loop .at) _ _ (ap signedRead (sym (c .before .before .before .before .before .before .before .signed .ensures) ∙ c .before .before .before .before .before .minus .given .1)) (sym (c .before .before .byte .ensures) ∙ c .before .if1 .left),
+    )
 
 loop-less : tie.Need-loop-less Inv-loop μ-loop
 loop-less c = let a = c .before .before .before .before .before .before .before .before .before .before .args in
-    omega (arith, loop-on (λ (e : ℕ). signedRead (signedAt (now (a .s)) e)) 44 (now (a .s)) (omega arith) (λ at x e. signed-after (now (a .s)) at x e) takeNumber numbersIs Listed.Not (c .before .before .before .before .before .before .before .before .loop .m) (c .before .before .before .before .before .before .before .before .loop .at) _ _ (ap signedRead (sym (c .before .before .before .before .before .before .before .signed .ensures) ∙ c .before .before .before .before .before .minus .given .1)) (sym (c .before .before .byte .ensures) ∙ c .before .if1 .left))
+    omega (
+      arith,
+      loop-on (λ (e : ℕ). signedRead (signedAt (now (a .s)) e)) 44 (now (a .s)) (omega arith) (λ at x e. signed-after (now (a .s)) at x e) takeNumber numbersIs Listed.Not (c .before .before .before .before .before .before .before .before .loop .m) (c .before .before .before .before .before .before .before .before .loop .at) _ _ (ap signedRead (sym (c .before .before .before .before .before .before .before .signed .ensures) ∙ c .before .before .before .before .before .minus .given .1)) (sym (c .before .before .byte .ensures) ∙ c .before .if1 .left),
+    )
 
 loop-again : tie.Need-loop-again Inv-loop μ-loop
 loop-again c = let a = c .before .before .before .before .before .before .before .before .before .before .args in
-    rw (c .before .before .before .with-number .ensures) (loop-next (λ (e : ℕ). signedRead (signedAt (now (a .s)) e)) 44 (now (a .s)) (omega arith) (λ at x e. signed-after (now (a .s)) at x e) takeNumber numbersIs Listed.Not (c .before .before .before .before .before .before .before .before .loop .m) (c .before .before .before .before .before .before .before .before .loop .at) _ _ (ap signedRead (sym (c .before .before .before .before .before .before .before .signed .ensures) ∙ c .before .before .before .before .before .minus .given .1)) (sym (c .before .before .byte .ensures) ∙ c .before .if1 .left) ∙ c .before .before .before .before .before .before .before .before .loop .inv)
+    rw (c .before .before .before .with-number .ensures)
+    (loop-next (λ (e : ℕ). signedRead (signedAt (now (a .s)) e)) 44 (now (a .s)) (omega arith) (λ at x e. signed-after (now (a .s)) at x e) takeNumber numbersIs Listed.Not (c .before .before .before .before .before .before .before .before .loop .m) (c .before .before .before .before .before .before .before .before .loop .at) _ _ (ap signedRead (sym (c .before .before .before .before .before .before .before .signed .ensures) ∙ c .before .before .before .before .before .minus .given .1)) (sym (c .before .before .byte .ensures) ∙ c .before .if1 .left) ∙ c .before .before .before .before .before .before .before .before .loop .inv)
 
 pub numbers-at-spec : {M : Type 1} → statement M
 numbers-at-spec =

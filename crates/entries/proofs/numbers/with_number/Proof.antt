@@ -21,11 +21,21 @@ with-bit-requires-2 c κs = search needs
 
 returns-2 : tie.Need-returns-2
 unfolding withNumber
-returns-2 c = rw (sym (c .before .before .before .lies-within .ensures) ∙ not-false _ (c .before .before .if1 .left), c .before .if2 .taken, c .with-bit .ensures) refl
+returns-2 c =
+    rw (
+      sym (c .before .before .before .lies-within .ensures) ∙ not-false _ (c .before .before .if1 .left),
+      c .before .if2 .taken,
+      c .with-bit .ensures,
+    ) refl
 
 returns-3 : tie.Need-returns-3
 unfolding withNumber
-returns-3 c = rw (sym (c .before .before .before .lies-within .ensures) ∙ not-false _ (c .before .before .if1 .left), c .before .if2 .left, c .with-bit2 .ensures) refl
+returns-3 c =
+    rw (
+      sym (c .before .before .before .lies-within .ensures) ∙ not-false _ (c .before .before .if1 .left),
+      c .before .if2 .left,
+      c .with-bit2 .ensures,
+    ) refl
 
 pub with-number-spec : {M : Type 1} → statement M
 with-number-spec =

@@ -40,30 +40,45 @@ enum-told c = search needs
 
 returns : tie.Need-returns Inv-loop μ-loop
 returns c = let a = c .before .before .before .before .before .before .args in
-    loop-not (entryRead (now (a .s))) 44 (now (a .s)) (omega arith) (λ at x e. entry-after (now (a .s)) at x e) takeEntry daysIs Days.Not (c .before .before .before .before .loop .m) (c .before .before .before .before .loop .at) (entry-unmarked (c .before .before .before .before .loop .m) _ (sym (c .enum-told .given .1) ∙ c .before .before .entry-marks .ensures ∙ ap (entryMarks (c .before .before .before .before .loop .m)) (c .before .before .before .entry-at .ensures))) ∙ c .before .before .before .before .loop .inv
+    loop-not (entryRead (now (a .s))) 44 (now (a .s)) (omega arith) (λ at x e. entry-after (now (a .s)) at x e) takeEntry daysIs Days.Not
+    (c .before .before .before .before .loop .m) (c .before .before .before .before .loop .at)
+    (entry-unmarked (c .before .before .before .before .loop .m) _ (sym (c .enum-told .given .1) ∙ c .before .before .entry-marks .ensures ∙ ap (entryMarks (c .before .before .before .before .loop .m)) (c .before .before .before .entry-at .ensures)))
+    ∙ c .before .before .before .before .loop .inv
 
 byte-requires : tie.Need-byte-requires Inv-loop μ-loop
 byte-requires c κs = search needs
 
 returns-2 : tie.Need-returns-2 Inv-loop μ-loop
 returns-2 c = let a = c .before .before .before .before .before .before .before .before .before .args in
-    let r = entry-marked (c .before .before .before .before .before .before .before .loop .m) (entryRead (now (a .s)) (c .before .before .before .before .before .before .before .loop .at)) _ _ (sym (c .before .before .before .marks .given .1) ∙ c .before .before .before .before .before .entry-marks .ensures ∙ ap (entryMarks (c .before .before .before .before .before .before .before .loop .m)) (c .before .before .before .before .before .before .entry-at .ensures)) in
-    rw (r .marked) (loop-last (entryRead (now (a .s))) 44 (now (a .s)) (omega arith) (λ at x e. entry-after (now (a .s)) at x e) takeEntry daysIs Days.Not (c .before .before .before .before .before .before .before .loop .m) (c .before .before .before .before .before .before .before .loop .at) _ _ (r .read) (λ q. c .if1 .taken (c .before .byte .ensures ∙ q)) ∙ c .before .before .before .before .before .before .before .loop .inv)
+    let r =
+    entry-marked (c .before .before .before .before .before .before .before .loop .m) (entryRead (now (a .s)) (c .before .before .before .before .before .before .before .loop .at)) _ _ (sym (c .before .before .before .marks .given .1) ∙ c .before .before .before .before .before .entry-marks .ensures ∙ ap (entryMarks (c .before .before .before .before .before .before .before .loop .m)) (c .before .before .before .before .before .before .entry-at .ensures)) in
+    rw (r .marked)
+    (loop-last (entryRead (now (a .s))) 44 (now (a .s)) (omega arith) (λ at x e. entry-after (now (a .s)) at x e) takeEntry daysIs Days.Not (c .before .before .before .before .before .before .before .loop .m) (c .before .before .before .before .before .before .before .loop .at) _ _ (r .read) (λ q. c .if1 .taken (c .before .byte .ensures ∙ q)) ∙ c .before .before .before .before .before .before .before .loop .inv)
 
 add-at : tie.Need-add-at Inv-loop μ-loop
 add-at c = let a = c .before .before .before .before .before .before .before .before .before .before .args in
-    let r = entry-marked (c .before .before .before .before .before .before .before .before .loop .m) (entryRead (now (a .s)) (c .before .before .before .before .before .before .before .before .loop .at)) _ _ (sym (c .before .before .before .before .marks .given .1) ∙ c .before .before .before .before .before .before .entry-marks .ensures ∙ ap (entryMarks (c .before .before .before .before .before .before .before .before .loop .m)) (c .before .before .before .before .before .before .before .entry-at .ensures)) in
-    omega (arith, loop-on (entryRead (now (a .s))) 44 (now (a .s)) (omega arith) (λ at x e. entry-after (now (a .s)) at x e) takeEntry daysIs Days.Not (c .before .before .before .before .before .before .before .before .loop .m) (c .before .before .before .before .before .before .before .before .loop .at) _ _ (r .read) (sym (c .before .before .byte .ensures) ∙ c .before .if1 .left))
+    let r =
+    entry-marked (c .before .before .before .before .before .before .before .before .loop .m) (entryRead (now (a .s)) (c .before .before .before .before .before .before .before .before .loop .at)) _ _ (sym (c .before .before .before .before .marks .given .1) ∙ c .before .before .before .before .before .before .entry-marks .ensures ∙ ap (entryMarks (c .before .before .before .before .before .before .before .before .loop .m)) (c .before .before .before .before .before .before .before .entry-at .ensures)) in
+    omega (
+      arith,
+      loop-on (entryRead (now (a .s))) 44 (now (a .s)) (omega arith) (λ at x e. entry-after (now (a .s)) at x e) takeEntry daysIs Days.Not (c .before .before .before .before .before .before .before .before .loop .m) (c .before .before .before .before .before .before .before .before .loop .at) _ _ (r .read) (sym (c .before .before .byte .ensures) ∙ c .before .if1 .left),
+    )
 
 loop-less : tie.Need-loop-less Inv-loop μ-loop
 loop-less c = let a = c .before .before .before .before .before .before .before .before .before .before .args in
-    let r = entry-marked (c .before .before .before .before .before .before .before .before .loop .m) (entryRead (now (a .s)) (c .before .before .before .before .before .before .before .before .loop .at)) _ _ (sym (c .before .before .before .before .marks .given .1) ∙ c .before .before .before .before .before .before .entry-marks .ensures ∙ ap (entryMarks (c .before .before .before .before .before .before .before .before .loop .m)) (c .before .before .before .before .before .before .before .entry-at .ensures)) in
-    omega (arith, loop-on (entryRead (now (a .s))) 44 (now (a .s)) (omega arith) (λ at x e. entry-after (now (a .s)) at x e) takeEntry daysIs Days.Not (c .before .before .before .before .before .before .before .before .loop .m) (c .before .before .before .before .before .before .before .before .loop .at) _ _ (r .read) (sym (c .before .before .byte .ensures) ∙ c .before .if1 .left))
+    let r =
+    entry-marked (c .before .before .before .before .before .before .before .before .loop .m) (entryRead (now (a .s)) (c .before .before .before .before .before .before .before .before .loop .at)) _ _ (sym (c .before .before .before .before .marks .given .1) ∙ c .before .before .before .before .before .before .entry-marks .ensures ∙ ap (entryMarks (c .before .before .before .before .before .before .before .before .loop .m)) (c .before .before .before .before .before .before .before .entry-at .ensures)) in
+    omega (
+      arith,
+      loop-on (entryRead (now (a .s))) 44 (now (a .s)) (omega arith) (λ at x e. entry-after (now (a .s)) at x e) takeEntry daysIs Days.Not (c .before .before .before .before .before .before .before .before .loop .m) (c .before .before .before .before .before .before .before .before .loop .at) _ _ (r .read) (sym (c .before .before .byte .ensures) ∙ c .before .if1 .left),
+    )
 
 loop-again : tie.Need-loop-again Inv-loop μ-loop
 loop-again c = let a = c .before .before .before .before .before .before .before .before .before .before .args in
-    let r = entry-marked (c .before .before .before .before .before .before .before .before .loop .m) (entryRead (now (a .s)) (c .before .before .before .before .before .before .before .before .loop .at)) _ _ (sym (c .before .before .before .before .marks .given .1) ∙ c .before .before .before .before .before .before .entry-marks .ensures ∙ ap (entryMarks (c .before .before .before .before .before .before .before .before .loop .m)) (c .before .before .before .before .before .before .before .entry-at .ensures)) in
-    rw (r .marked) (loop-next (entryRead (now (a .s))) 44 (now (a .s)) (omega arith) (λ at x e. entry-after (now (a .s)) at x e) takeEntry daysIs Days.Not (c .before .before .before .before .before .before .before .before .loop .m) (c .before .before .before .before .before .before .before .before .loop .at) _ _ (r .read) (sym (c .before .before .byte .ensures) ∙ c .before .if1 .left) ∙ c .before .before .before .before .before .before .before .before .loop .inv)
+    let r =
+    entry-marked (c .before .before .before .before .before .before .before .before .loop .m) (entryRead (now (a .s)) (c .before .before .before .before .before .before .before .before .loop .at)) _ _ (sym (c .before .before .before .before .marks .given .1) ∙ c .before .before .before .before .before .before .entry-marks .ensures ∙ ap (entryMarks (c .before .before .before .before .before .before .before .before .loop .m)) (c .before .before .before .before .before .before .before .entry-at .ensures)) in
+    rw (r .marked)
+    (loop-next (entryRead (now (a .s))) 44 (now (a .s)) (omega arith) (λ at x e. entry-after (now (a .s)) at x e) takeEntry daysIs Days.Not (c .before .before .before .before .before .before .before .before .loop .m) (c .before .before .before .before .before .before .before .before .loop .at) _ _ (r .read) (sym (c .before .before .byte .ensures) ∙ c .before .if1 .left) ∙ c .before .before .before .before .before .before .before .before .loop .inv)
 
 pub days-at-spec : {M : Type 1} → statement M
 days-at-spec =

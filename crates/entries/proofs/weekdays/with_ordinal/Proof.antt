@@ -16,7 +16,8 @@ unfolding withOrdinal
 returns c = rw (sym (c .before .lies-within .ensures) ∙ not-true _ (c .if1 .taken)) refl
 
 sub-place : tie.Need-sub-place
-sub-place c = omega (arith, within-range 1 5 (c .before .before .args .number) (sym (c .before .lies-within .ensures) ∙ not-false _ (c .if1 .left)))
+sub-place c =
+    omega (arith, within-range 1 5 (c .before .before .args .number) (sym (c .before .lies-within .ensures) ∙ not-false _ (c .if1 .left)))
 
 mul-place : tie.Need-mul-place
 mul-place c = search needs
@@ -32,11 +33,21 @@ with-bit-requires-2 c κs = search needs
 
 returns-2 : tie.Need-returns-2
 unfolding withOrdinal
-returns-2 c = rw (sym (c .before .before .before .lies-within .ensures) ∙ not-false _ (c .before .before .if1 .left), c .before .if2 .taken, c .with-bit .ensures) refl
+returns-2 c =
+    rw (
+      sym (c .before .before .before .lies-within .ensures) ∙ not-false _ (c .before .before .if1 .left),
+      c .before .if2 .taken,
+      c .with-bit .ensures,
+    ) refl
 
 returns-3 : tie.Need-returns-3
 unfolding withOrdinal
-returns-3 c = rw (sym (c .before .before .before .lies-within .ensures) ∙ not-false _ (c .before .before .if1 .left), c .before .if2 .left, c .with-bit2 .ensures) refl
+returns-3 c =
+    rw (
+      sym (c .before .before .before .lies-within .ensures) ∙ not-false _ (c .before .before .if1 .left),
+      c .before .if2 .left,
+      c .with-bit2 .ensures,
+    ) refl
 
 pub with-ordinal-spec : {M : Type 1} → statement M
 with-ordinal-spec =

@@ -15,7 +15,8 @@ natural-requires c κs = search needs
 returns-2 : tie.Need-returns-2
 returns-2 c =
     let s = c .before .before in
-    c .natural .ensures ∙ rw (toZ-ofZ (s .fits .m)) (sym (minute-natural (s .args .m) (rw (toZ-ofZ (s .fits .m)) at (c .before .if1 .left))))
+    c .natural .ensures
+    ∙ rw (toZ-ofZ (s .fits .m)) (sym (minute-natural (s .args .m) (rw (toZ-ofZ (s .fits .m)) at (c .before .if1 .left))))
 
 pub minute-of-spec : {M : Type 1} → statement M
 minute-of-spec = tie.close (tie.spec returns natural-requires returns-2)

@@ -27,10 +27,20 @@ byte-requires c κs = search needs
 
 returns-2 : tie.Need-returns-2
 unfolding elementAt
-returns-2 c = rw (← c .before .before .before .before .before .number .ensures, c .before .before .before .first .given .1, ← c .before .byte .ensures, ne-eqb _ _ (c .if1 .taken)) refl
+returns-2 c =
+    rw (
+      ← c .before .before .before .before .before .number .ensures,
+      c .before .before .before .first .given .1,
+      ← c .before .byte .ensures,
+      ne-eqb _ _ (c .if1 .taken),
+    ) refl
 
 add-t11 : tie.Need-add-t11
-add-t11 c = omega (arith, byte-within (now (c .before .before .before .before .before .before .before .before .args .s)) _ 45 (omega arith) (sym (c .before .before .byte .ensures) ∙ c .before .if1 .left))
+add-t11 c =
+    omega (
+      arith,
+      byte-within (now (c .before .before .before .before .before .before .before .before .args .s)) _ 45 (omega arith) (sym (c .before .before .byte .ensures) ∙ c .before .if1 .left),
+    )
 
 number-requires-2 : tie.Need-number-requires-2
 number-requires-2 c κs = search needs
@@ -43,11 +53,27 @@ enum-told-2 c = search needs
 
 returns-3 : tie.Need-returns-3
 unfolding elementAt
-returns-3 c = rw (← c .before .before .before .before .before .before .before .before .before .number .ensures, c .before .before .before .before .before .before .before .first .given .1, ← c .before .before .before .before .before .byte .ensures, eq-eqb _ _ (c .before .before .before .before .if1 .left), ← c .before .before .number2 .ensures, c .enum-told2 .given .1) refl
+returns-3 c =
+    rw (
+      ← c .before .before .before .before .before .before .before .before .before .number .ensures,
+      c .before .before .before .before .before .before .before .first .given .1,
+      ← c .before .before .before .before .before .byte .ensures,
+      eq-eqb _ _ (c .before .before .before .before .if1 .left),
+      ← c .before .before .number2 .ensures,
+      c .enum-told2 .given .1,
+    ) refl
 
 returns-4 : tie.Need-returns-4
 unfolding elementAt
-returns-4 c = rw (← c .before .before .before .before .before .before .before .before .before .before .number .ensures, c .before .before .before .before .before .before .before .before .first .given .1, ← c .before .before .before .before .before .before .byte .ensures, eq-eqb _ _ (c .before .before .before .before .before .if1 .left), ← c .before .before .before .number2 .ensures, c .before .last .given .1) refl
+returns-4 c =
+    rw (
+      ← c .before .before .before .before .before .before .before .before .before .before .number .ensures,
+      c .before .before .before .before .before .before .before .before .first .given .1,
+      ← c .before .before .before .before .before .before .byte .ensures,
+      eq-eqb _ _ (c .before .before .before .before .before .if1 .left),
+      ← c .before .before .before .number2 .ensures,
+      c .before .last .given .1,
+    ) refl
 
 pub element-at-spec : {M : Type 1} → statement M
 element-at-spec =

@@ -31,11 +31,16 @@ sub-every c = let a = c .before .before .before .args in
     rw (one-shifted (a .low) (omega arith), one-shifted (a .high + 1) (omega arith)) (pow-le-pow-right (omega arith) (omega arith))
 
 add-t14 : tie.Need-add-t14
-add-t14 c = omega (arith, byte-within (now (c .before .before .before .before .args .s)) _ 42 (omega arith) (sym (c .before .before .byte .ensures) ∙ c .before .if1 .taken))
+add-t14 c =
+    omega (
+      arith,
+      byte-within (now (c .before .before .before .before .args .s)) _ 42 (omega arith) (sym (c .before .before .byte .ensures) ∙ c .before .if1 .taken),
+    )
 
 returns : tie.Need-returns
 returns c = let a = c .before .before .before .before .args in
-    rw (one-shifted (a .low) (omega arith), one-shifted (a .high + 1) (omega arith)) (field-star (a .low) (a .high) (now (a .s)) (a .c .at) (omega arith) (sym (c .before .before .byte .ensures) ∙ c .before .if1 .taken))
+    rw (one-shifted (a .low) (omega arith), one-shifted (a .high + 1) (omega arith))
+    (field-star (a .low) (a .high) (now (a .s)) (a .c .at) (omega arith) (sym (c .before .before .byte .ensures) ∙ c .before .if1 .taken))
 
 list-from-requires : tie.Need-list-from-requires
 list-from-requires c κs = search needs
@@ -48,7 +53,9 @@ enum-told c = search needs
 
 returns-2 : tie.Need-returns-2
 returns-2 c = let a = c .before .before .before .before .before .before .args in
-    field-not (a .low) (a .high) (now (a .s)) (a .c .at) (ap (λ (x : ℕ). eqb x 42) (sym (c .before .before .before .before .byte .ensures)) ∙ ne-eqb _ _ (c .before .before .before .if1 .left)) (taken-not (a .low) (a .high) _ (sym (c .enum-told .given .1) ∙ c .before .before .list-from .ensures (length (now (a .s)) + 1) (omega arith)))
+    field-not (a .low) (a .high) (now (a .s)) (a .c .at)
+    (ap (λ (x : ℕ). eqb x 42) (sym (c .before .before .before .before .byte .ensures)) ∙ ne-eqb _ _ (c .before .before .before .if1 .left))
+    (taken-not (a .low) (a .high) _ (sym (c .enum-told .given .1) ∙ c .before .before .list-from .ensures (length (now (a .s)) + 1) (omega arith)))
 
 returns-3 : tie.Need-returns-3
 returns-3 c = let a = c .before .before .before .before .before .before .before .before .before .args in

@@ -21,7 +21,8 @@ enum-told c = search needs
 returns : tie.Need-returns
 returns c =
     let a = c .before .before .before .before .before .args in
-    no-minute (now (a .s)) (a .c .at) (spaced-not (now (a .s)) 0 59 _ _ (c .before .before .before .minute .ensures) (c .before .before .spaced .ensures) (c .enum-told .given .1))
+    no-minute (now (a .s)) (a .c .at)
+    (spaced-not (now (a .s)) 0 59 _ _ (c .before .before .before .minute .ensures) (c .before .before .spaced .ensures) (c .enum-told .given .1))
 
 hour-requires : tie.Need-hour-requires
 hour-requires c κs = search needs
@@ -38,8 +39,10 @@ enum-told-2 c = search needs
 returns-2 : tie.Need-returns-2
 returns-2 c =
     let a = c .before .before .before .before .before .before .before .before .before .before .args in
-    let m = spaced-is (now (a .s)) 0 59 _ _ (c .before .before .before .before .before .before .before .before .minute .ensures) (c .before .before .before .before .before .before .before .spaced .ensures) (c .before .before .before .before .before .minutes .given .1) in
-    no-hour (now (a .s)) (a .c .at) m (spaced-not (now (a .s)) 0 23 _ _ (c .before .before .before .hour .ensures) (c .before .before .spaced2 .ensures) (c .enum-told2 .given .1))
+    let m =
+    spaced-is (now (a .s)) 0 59 _ _ (c .before .before .before .before .before .before .before .before .minute .ensures) (c .before .before .before .before .before .before .before .spaced .ensures) (c .before .before .before .before .before .minutes .given .1) in
+    no-hour (now (a .s)) (a .c .at) m
+    (spaced-not (now (a .s)) 0 23 _ _ (c .before .before .before .hour .ensures) (c .before .before .spaced2 .ensures) (c .enum-told2 .given .1))
 
 day-of-month-requires : tie.Need-day-of-month-requires
 day-of-month-requires c κs = search needs
@@ -55,10 +58,14 @@ enum-told-3 c = search needs
 
 returns-3 : tie.Need-returns-3
 returns-3 c =
-    let a = c .before .before .before .before .before .before .before .before .before .before .before .before .before .before .before .args in
-    let m = spaced-is (now (a .s)) 0 59 _ _ (c .before .before .before .before .before .before .before .before .before .before .before .before .before .minute .ensures) (c .before .before .before .before .before .before .before .before .before .before .before .before .spaced .ensures) (c .before .before .before .before .before .before .before .before .before .before .minutes .given .1) in
-    let h = spaced-is (now (a .s)) 0 23 _ _ (c .before .before .before .before .before .before .before .before .hour .ensures) (c .before .before .before .before .before .before .before .spaced2 .ensures) (c .before .before .before .before .before .hours .given .1) in
-    no-day (now (a .s)) (a .c .at) m h (spaced-not (now (a .s)) 1 31 _ _ (c .before .before .before .day-of-month .ensures) (c .before .before .spaced3 .ensures) (c .enum-told3 .given .1))
+    let a =
+    c .before .before .before .before .before .before .before .before .before .before .before .before .before .before .before .args in
+    let m =
+    spaced-is (now (a .s)) 0 59 _ _ (c .before .before .before .before .before .before .before .before .before .before .before .before .before .minute .ensures) (c .before .before .before .before .before .before .before .before .before .before .before .before .spaced .ensures) (c .before .before .before .before .before .before .before .before .before .before .minutes .given .1) in
+    let h =
+    spaced-is (now (a .s)) 0 23 _ _ (c .before .before .before .before .before .before .before .before .hour .ensures) (c .before .before .before .before .before .before .before .spaced2 .ensures) (c .before .before .before .before .before .hours .given .1) in
+    no-day (now (a .s)) (a .c .at) m h
+    (spaced-not (now (a .s)) 1 31 _ _ (c .before .before .before .day-of-month .ensures) (c .before .before .spaced3 .ensures) (c .enum-told3 .given .1))
 
 month-requires : tie.Need-month-requires
 month-requires c κs = search needs
@@ -74,11 +81,16 @@ enum-told-4 c = search needs
 
 returns-4 : tie.Need-returns-4
 returns-4 c =
-    let a = c .before .before .before .before .before .before .before .before .before .before .before .before .before .before .before .before .before .before .before .before .args in
-    let m = spaced-is (now (a .s)) 0 59 _ _ (c .before .before .before .before .before .before .before .before .before .before .before .before .before .before .before .before .before .before .minute .ensures) (c .before .before .before .before .before .before .before .before .before .before .before .before .before .before .before .before .before .spaced .ensures) (c .before .before .before .before .before .before .before .before .before .before .before .before .before .before .before .minutes .given .1) in
-    let h = spaced-is (now (a .s)) 0 23 _ _ (c .before .before .before .before .before .before .before .before .before .before .before .before .before .hour .ensures) (c .before .before .before .before .before .before .before .before .before .before .before .before .spaced2 .ensures) (c .before .before .before .before .before .before .before .before .before .before .hours .given .1) in
-    let d = spaced-is (now (a .s)) 1 31 _ _ (c .before .before .before .before .before .before .before .before .day-of-month .ensures) (c .before .before .before .before .before .before .before .spaced3 .ensures) (c .before .before .before .before .before .days .given .1) in
-    no-month (now (a .s)) (a .c .at) m h d (spaced-not (now (a .s)) 1 12 _ _ (c .before .before .before .month .ensures) (c .before .before .spaced4 .ensures) (c .enum-told4 .given .1))
+    let a =
+    c .before .before .before .before .before .before .before .before .before .before .before .before .before .before .before .before .before .before .before .before .args in
+    let m =
+    spaced-is (now (a .s)) 0 59 _ _ (c .before .before .before .before .before .before .before .before .before .before .before .before .before .before .before .before .before .before .minute .ensures) (c .before .before .before .before .before .before .before .before .before .before .before .before .before .before .before .before .before .spaced .ensures) (c .before .before .before .before .before .before .before .before .before .before .before .before .before .before .before .minutes .given .1) in
+    let h =
+    spaced-is (now (a .s)) 0 23 _ _ (c .before .before .before .before .before .before .before .before .before .before .before .before .before .hour .ensures) (c .before .before .before .before .before .before .before .before .before .before .before .before .spaced2 .ensures) (c .before .before .before .before .before .before .before .before .before .before .hours .given .1) in
+    let d =
+    spaced-is (now (a .s)) 1 31 _ _ (c .before .before .before .before .before .before .before .before .day-of-month .ensures) (c .before .before .before .before .before .before .before .spaced3 .ensures) (c .before .before .before .before .before .days .given .1) in
+    no-month (now (a .s)) (a .c .at) m h d
+    (spaced-not (now (a .s)) 1 12 _ _ (c .before .before .before .month .ensures) (c .before .before .spaced4 .ensures) (c .enum-told4 .given .1))
 
 day-of-week-requires : tie.Need-day-of-week-requires
 day-of-week-requires c κs = search needs
@@ -94,21 +106,33 @@ enum-told-5 c = search needs
 
 returns-5 : tie.Need-returns-5
 returns-5 c =
-    let a = c .before .before .before .before .before .before .before .before .before .before .before .before .before .before .before .before .before .before .before .before .before .before .before .before .before .args in
-    let m = spaced-is (now (a .s)) 0 59 _ _ (c .before .before .before .before .before .before .before .before .before .before .before .before .before .before .before .before .before .before .before .before .before .before .before .minute .ensures) (c .before .before .before .before .before .before .before .before .before .before .before .before .before .before .before .before .before .before .before .before .before .before .spaced .ensures) (c .before .before .before .before .before .before .before .before .before .before .before .before .before .before .before .before .before .before .before .before .minutes .given .1) in
-    let h = spaced-is (now (a .s)) 0 23 _ _ (c .before .before .before .before .before .before .before .before .before .before .before .before .before .before .before .before .before .before .hour .ensures) (c .before .before .before .before .before .before .before .before .before .before .before .before .before .before .before .before .before .spaced2 .ensures) (c .before .before .before .before .before .before .before .before .before .before .before .before .before .before .before .hours .given .1) in
-    let d = spaced-is (now (a .s)) 1 31 _ _ (c .before .before .before .before .before .before .before .before .before .before .before .before .before .day-of-month .ensures) (c .before .before .before .before .before .before .before .before .before .before .before .before .spaced3 .ensures) (c .before .before .before .before .before .before .before .before .before .before .days .given .1) in
-    let mo = spaced-is (now (a .s)) 1 12 _ _ (c .before .before .before .before .before .before .before .before .month .ensures) (c .before .before .before .before .before .before .before .spaced4 .ensures) (c .before .before .before .before .before .months .given .1) in
-    no-weekday (now (a .s)) (a .c .at) m h d mo (last-not (now (a .s)) 0 6 _ _ (c .before .before .before .day-of-week .ensures) (c .before .before .step-of .ensures) (c .enum-told5 .given .1))
+    let a =
+    c .before .before .before .before .before .before .before .before .before .before .before .before .before .before .before .before .before .before .before .before .before .before .before .before .before .args in
+    let m =
+    spaced-is (now (a .s)) 0 59 _ _ (c .before .before .before .before .before .before .before .before .before .before .before .before .before .before .before .before .before .before .before .before .before .before .before .minute .ensures) (c .before .before .before .before .before .before .before .before .before .before .before .before .before .before .before .before .before .before .before .before .before .before .spaced .ensures) (c .before .before .before .before .before .before .before .before .before .before .before .before .before .before .before .before .before .before .before .before .minutes .given .1) in
+    let h =
+    spaced-is (now (a .s)) 0 23 _ _ (c .before .before .before .before .before .before .before .before .before .before .before .before .before .before .before .before .before .before .hour .ensures) (c .before .before .before .before .before .before .before .before .before .before .before .before .before .before .before .before .before .spaced2 .ensures) (c .before .before .before .before .before .before .before .before .before .before .before .before .before .before .before .hours .given .1) in
+    let d =
+    spaced-is (now (a .s)) 1 31 _ _ (c .before .before .before .before .before .before .before .before .before .before .before .before .before .day-of-month .ensures) (c .before .before .before .before .before .before .before .before .before .before .before .before .spaced3 .ensures) (c .before .before .before .before .before .before .before .before .before .before .days .given .1) in
+    let mo =
+    spaced-is (now (a .s)) 1 12 _ _ (c .before .before .before .before .before .before .before .before .month .ensures) (c .before .before .before .before .before .before .before .spaced4 .ensures) (c .before .before .before .before .before .months .given .1) in
+    no-weekday (now (a .s)) (a .c .at) m h d mo
+    (last-not (now (a .s)) 0 6 _ _ (c .before .before .before .day-of-week .ensures) (c .before .before .step-of .ensures) (c .enum-told5 .given .1))
 
 returns-6 : tie.Need-returns-6
 returns-6 c =
-    let a = c .before .before .before .before .before .before .before .before .before .before .before .before .before .before .before .before .before .before .before .before .before .before .before .before .before .before .before .args in
-    let m = spaced-is (now (a .s)) 0 59 _ _ (c .before .before .before .before .before .before .before .before .before .before .before .before .before .before .before .before .before .before .before .before .before .before .before .before .before .minute .ensures) (c .before .before .before .before .before .before .before .before .before .before .before .before .before .before .before .before .before .before .before .before .before .before .before .before .spaced .ensures) (c .before .before .before .before .before .before .before .before .before .before .before .before .before .before .before .before .before .before .before .before .before .before .minutes .given .1) in
-    let h = spaced-is (now (a .s)) 0 23 _ _ (c .before .before .before .before .before .before .before .before .before .before .before .before .before .before .before .before .before .before .before .before .hour .ensures) (c .before .before .before .before .before .before .before .before .before .before .before .before .before .before .before .before .before .before .before .spaced2 .ensures) (c .before .before .before .before .before .before .before .before .before .before .before .before .before .before .before .before .before .hours .given .1) in
-    let d = spaced-is (now (a .s)) 1 31 _ _ (c .before .before .before .before .before .before .before .before .before .before .before .before .before .before .before .day-of-month .ensures) (c .before .before .before .before .before .before .before .before .before .before .before .before .before .before .spaced3 .ensures) (c .before .before .before .before .before .before .before .before .before .before .before .before .days .given .1) in
-    let mo = spaced-is (now (a .s)) 1 12 _ _ (c .before .before .before .before .before .before .before .before .before .before .month .ensures) (c .before .before .before .before .before .before .before .before .before .spaced4 .ensures) (c .before .before .before .before .before .before .before .months .given .1) in
-    let w = last-is (now (a .s)) 0 6 _ _ (c .before .before .before .before .before .day-of-week .ensures) (c .before .before .before .before .step-of .ensures) (c .before .before .weekdays .given .1) in
+    let a =
+    c .before .before .before .before .before .before .before .before .before .before .before .before .before .before .before .before .before .before .before .before .before .before .before .before .before .before .before .args in
+    let m =
+    spaced-is (now (a .s)) 0 59 _ _ (c .before .before .before .before .before .before .before .before .before .before .before .before .before .before .before .before .before .before .before .before .before .before .before .before .before .minute .ensures) (c .before .before .before .before .before .before .before .before .before .before .before .before .before .before .before .before .before .before .before .before .before .before .before .before .spaced .ensures) (c .before .before .before .before .before .before .before .before .before .before .before .before .before .before .before .before .before .before .before .before .before .before .minutes .given .1) in
+    let h =
+    spaced-is (now (a .s)) 0 23 _ _ (c .before .before .before .before .before .before .before .before .before .before .before .before .before .before .before .before .before .before .before .before .hour .ensures) (c .before .before .before .before .before .before .before .before .before .before .before .before .before .before .before .before .before .before .before .spaced2 .ensures) (c .before .before .before .before .before .before .before .before .before .before .before .before .before .before .before .before .before .hours .given .1) in
+    let d =
+    spaced-is (now (a .s)) 1 31 _ _ (c .before .before .before .before .before .before .before .before .before .before .before .before .before .before .before .day-of-month .ensures) (c .before .before .before .before .before .before .before .before .before .before .before .before .before .before .spaced3 .ensures) (c .before .before .before .before .before .before .before .before .before .before .before .before .days .given .1) in
+    let mo =
+    spaced-is (now (a .s)) 1 12 _ _ (c .before .before .before .before .before .before .before .before .before .before .month .ensures) (c .before .before .before .before .before .before .before .before .before .spaced4 .ensures) (c .before .before .before .before .before .before .before .months .given .1) in
+    let w =
+    last-is (now (a .s)) 0 6 _ _ (c .before .before .before .before .before .day-of-week .ensures) (c .before .before .before .before .step-of .ensures) (c .before .before .weekdays .given .1) in
     five-outside (now (a .s)) (a .c .at) m h d mo w (not-true _ (c .if1 .taken))
 
 flags-requires : tie.Need-flags-requires
@@ -116,12 +140,18 @@ flags-requires c κs = search needs
 
 returns-7 : tie.Need-returns-7
 returns-7 c =
-    let a = c .before .before .before .before .before .before .before .before .before .before .before .before .before .before .before .before .before .before .before .before .before .before .before .before .before .before .before .before .args in
-    let m = spaced-is (now (a .s)) 0 59 _ _ (c .before .before .before .before .before .before .before .before .before .before .before .before .before .before .before .before .before .before .before .before .before .before .before .before .before .before .minute .ensures) (c .before .before .before .before .before .before .before .before .before .before .before .before .before .before .before .before .before .before .before .before .before .before .before .before .before .spaced .ensures) (c .before .before .before .before .before .before .before .before .before .before .before .before .before .before .before .before .before .before .before .before .before .before .before .minutes .given .1) in
-    let h = spaced-is (now (a .s)) 0 23 _ _ (c .before .before .before .before .before .before .before .before .before .before .before .before .before .before .before .before .before .before .before .before .before .hour .ensures) (c .before .before .before .before .before .before .before .before .before .before .before .before .before .before .before .before .before .before .before .before .spaced2 .ensures) (c .before .before .before .before .before .before .before .before .before .before .before .before .before .before .before .before .before .before .hours .given .1) in
-    let d = spaced-is (now (a .s)) 1 31 _ _ (c .before .before .before .before .before .before .before .before .before .before .before .before .before .before .before .before .day-of-month .ensures) (c .before .before .before .before .before .before .before .before .before .before .before .before .before .before .before .spaced3 .ensures) (c .before .before .before .before .before .before .before .before .before .before .before .before .before .days .given .1) in
-    let mo = spaced-is (now (a .s)) 1 12 _ _ (c .before .before .before .before .before .before .before .before .before .before .before .month .ensures) (c .before .before .before .before .before .before .before .before .before .before .spaced4 .ensures) (c .before .before .before .before .before .before .before .before .months .given .1) in
-    let w = last-is (now (a .s)) 0 6 _ _ (c .before .before .before .before .before .before .day-of-week .ensures) (c .before .before .before .before .before .step-of .ensures) (c .before .before .before .weekdays .given .1) in
+    let a =
+    c .before .before .before .before .before .before .before .before .before .before .before .before .before .before .before .before .before .before .before .before .before .before .before .before .before .before .before .before .args in
+    let m =
+    spaced-is (now (a .s)) 0 59 _ _ (c .before .before .before .before .before .before .before .before .before .before .before .before .before .before .before .before .before .before .before .before .before .before .before .before .before .before .minute .ensures) (c .before .before .before .before .before .before .before .before .before .before .before .before .before .before .before .before .before .before .before .before .before .before .before .before .before .spaced .ensures) (c .before .before .before .before .before .before .before .before .before .before .before .before .before .before .before .before .before .before .before .before .before .before .before .minutes .given .1) in
+    let h =
+    spaced-is (now (a .s)) 0 23 _ _ (c .before .before .before .before .before .before .before .before .before .before .before .before .before .before .before .before .before .before .before .before .before .hour .ensures) (c .before .before .before .before .before .before .before .before .before .before .before .before .before .before .before .before .before .before .before .before .spaced2 .ensures) (c .before .before .before .before .before .before .before .before .before .before .before .before .before .before .before .before .before .before .hours .given .1) in
+    let d =
+    spaced-is (now (a .s)) 1 31 _ _ (c .before .before .before .before .before .before .before .before .before .before .before .before .before .before .before .before .day-of-month .ensures) (c .before .before .before .before .before .before .before .before .before .before .before .before .before .before .before .spaced3 .ensures) (c .before .before .before .before .before .before .before .before .before .before .before .before .before .days .given .1) in
+    let mo =
+    spaced-is (now (a .s)) 1 12 _ _ (c .before .before .before .before .before .before .before .before .before .before .before .month .ensures) (c .before .before .before .before .before .before .before .before .before .before .spaced4 .ensures) (c .before .before .before .before .before .before .before .before .months .given .1) in
+    let w =
+    last-is (now (a .s)) 0 6 _ _ (c .before .before .before .before .before .before .day-of-week .ensures) (c .before .before .before .before .before .step-of .ensures) (c .before .before .before .weekdays .given .1) in
     rw (c .flags .ensures) (five-is (now (a .s)) (a .c .at) m h d mo w (not-false _ (c .before .if1 .left)))
 
 pub five-at-spec : {M : Type 1} → statement M

@@ -24,13 +24,29 @@ byte-requires : tie.Need-byte-requires
 byte-requires c κs = search needs
 
 returns-2 : tie.Need-returns-2
-returns-2 c = rw (← c .before .before .before .before .before .step-of .ensures, c .before .before .before .mask .given .1, ← c .before .byte .ensures, ne-eqb _ _ (c .if1 .taken)) refl
+returns-2 c =
+    rw (
+      ← c .before .before .before .before .before .step-of .ensures,
+      c .before .before .before .mask .given .1,
+      ← c .before .byte .ensures,
+      ne-eqb _ _ (c .if1 .taken),
+    ) refl
 
 add-t11 : tie.Need-add-t11
-add-t11 c = omega (arith, byte-within (now (c .before .before .before .before .before .before .before .before .args .s)) _ 32 (omega arith) (sym (c .before .before .byte .ensures) ∙ c .before .if1 .left))
+add-t11 c =
+    omega (
+      arith,
+      byte-within (now (c .before .before .before .before .before .before .before .before .args .s)) _ 32 (omega arith) (sym (c .before .before .byte .ensures) ∙ c .before .if1 .left),
+    )
 
 returns-3 : tie.Need-returns-3
-returns-3 c = rw (← c .before .before .before .before .before .before .step-of .ensures, c .before .before .before .before .mask .given .1, ← c .before .before .byte .ensures, eq-eqb _ _ (c .before .if1 .left)) refl
+returns-3 c =
+    rw (
+      ← c .before .before .before .before .before .before .step-of .ensures,
+      c .before .before .before .before .mask .given .1,
+      ← c .before .before .byte .ensures,
+      eq-eqb _ _ (c .before .if1 .left),
+    ) refl
 
 pub spaced-spec : {M : Type 1} → statement M
 spaced-spec =

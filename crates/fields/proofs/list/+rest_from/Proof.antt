@@ -116,7 +116,9 @@ rest-from-add-rest-from : (t : ℕ) → rest-from-lts.Need-add-rest-from (
   rest-from-below t,
   rest-from.Post,
 ) (rest-from-at t) rest-from.Post
-rest-from-add-rest-from t c = record { fits = omega (arith, byte-within (now (now (c .before .before .before .before .before .before .before .before .before .before .args .t))) _ 44 (omega arith) (sym (c .before .before .byte .ensures) ∙ c .before .if1 .taken)) }
+rest-from-add-rest-from t c =
+    record
+    { fits = omega (arith, byte-within (now (now (c .before .before .before .before .before .before .before .before .before .before .args .t))) _ 44 (omega arith) (sym (c .before .before .byte .ensures) ∙ c .before .if1 .taken)) }
 
 rest-from-rest-from-requires : (t : ℕ) → rest-from-lts.Need-rest-from-requires (
   element-at-reads.Asked,
@@ -128,9 +130,12 @@ rest-from-rest-from-requires : (t : ℕ) → rest-from-lts.Need-rest-from-requir
   rest-from-below t,
   rest-from.Post,
 ) (rest-from-at t) rest-from.Post
-rest-from-rest-from-requires t c κs = let a = c .before .before .before .before .before .before .before .before .before .before .before .before .args in
-    let r = marks-is (a .low) (a .high) _ (elementAt (now (now (a .t))) (a .at)) _ _ (ap (elementMarks (a .low) (a .high) _) (sym (c .before .before .before .before .before .before .before .before .before .element-at .ensures)) ∙ sym (c .before .before .before .before .before .before .before .before .element-marks .ensures) ∙ c .before .before .before .before .before .before .marks .given .1) in
-    let w = byte-within (now (now (a .t))) _ 44 (omega arith) (sym (c .before .before .before .before .byte .ensures) ∙ c .before .before .before .if1 .taken) in
+rest-from-rest-from-requires t c κs =
+    let a = c .before .before .before .before .before .before .before .before .before .before .before .before .args in
+    let r =
+    marks-is (a .low) (a .high) _ (elementAt (now (now (a .t))) (a .at)) _ _ (ap (elementMarks (a .low) (a .high) _) (sym (c .before .before .before .before .before .before .before .before .before .element-at .ensures)) ∙ sym (c .before .before .before .before .before .before .before .before .element-marks .ensures) ∙ c .before .before .before .before .before .before .marks .given .1) in
+    let w =
+    byte-within (now (now (a .t))) _ 44 (omega arith) (sym (c .before .before .before .before .byte .ensures) ∙ c .before .before .before .if1 .taken) in
     (omega (arith, w, place-after (now (now (a .t))) (a .at) (r .form) _ (r .read)), search needs)
 
 rest-from-returns-2 : (t : ℕ) → rest-from-lts.Need-returns-2 (
@@ -143,12 +148,15 @@ rest-from-returns-2 : (t : ℕ) → rest-from-lts.Need-returns-2 (
   rest-from-below t,
   rest-from.Post,
 ) (rest-from-at t) rest-from.Post
-rest-from-returns-2 t c = let a = c .before .before .before .before .before .before .before .before .before .before .before .before .before .args in
-    let r = marks-is (a .low) (a .high) _ (elementAt (now (now (a .t))) (a .at)) _ _ (ap (elementMarks (a .low) (a .high) _) (sym (c .before .before .before .before .before .before .before .before .before .before .element-at .ensures)) ∙ sym (c .before .before .before .before .before .before .before .before .before .element-marks .ensures) ∙ c .before .before .before .before .before .before .before .marks .given .1) in
+rest-from-returns-2 t c =
+    let a = c .before .before .before .before .before .before .before .before .before .before .before .before .before .args in
+    let r =
+    marks-is (a .low) (a .high) _ (elementAt (now (now (a .t))) (a .at)) _ _ (ap (elementMarks (a .low) (a .high) _) (sym (c .before .before .before .before .before .before .before .before .before .before .element-at .ensures)) ∙ sym (c .before .before .before .before .before .before .before .before .before .element-marks .ensures) ∙ c .before .before .before .before .before .before .before .marks .given .1) in
     let b = sym (c .before .before .before .before .before .byte .ensures) ∙ c .before .before .before .before .if1 .taken in
     let w = byte-within (now (now (a .t))) _ 44 (omega arith) b in
     let l = place-after (now (now (a .t))) (a .at) (r .form) _ (r .read) in
-    λ left h. c .rest-from .ensures (left - 1) (omega (arith, w, l)) ∙ list-next (now (now (a .t))) (a .low) (a .high) _ (a .at) _ _ r left (omega arith) b
+    λ left h. c .rest-from .ensures (left - 1) (omega (arith, w, l))
+    ∙ list-next (now (now (a .t))) (a .low) (a .high) _ (a .at) _ _ r left (omega arith) b
 
 rest-from-returns-3 : (t : ℕ) → rest-from-lts.Need-returns-3 (
   element-at-reads.Asked,
@@ -161,9 +169,11 @@ rest-from-returns-3 : (t : ℕ) → rest-from-lts.Need-returns-3 (
   rest-from.Post,
 ) (rest-from-at t) rest-from.Post
 rest-from-returns-3 t c = let a = c .before .before .before .before .before .before .before .before .before .args in
-    let r = marks-is (a .low) (a .high) _ (elementAt (now (now (a .t))) (a .at)) _ _ (ap (elementMarks (a .low) (a .high) _) (sym (c .before .before .before .before .before .before .element-at .ensures)) ∙ sym (c .before .before .before .before .before .element-marks .ensures) ∙ c .before .before .before .marks .given .1) in
+    let r =
+    marks-is (a .low) (a .high) _ (elementAt (now (now (a .t))) (a .at)) _ _ (ap (elementMarks (a .low) (a .high) _) (sym (c .before .before .before .before .before .before .element-at .ensures)) ∙ sym (c .before .before .before .before .before .element-marks .ensures) ∙ c .before .before .before .marks .given .1) in
     let l = place-after (now (now (a .t))) (a .at) (r .form) _ (r .read) in
-    λ left h. ended-is _ _ (omega (arith, l)) ∙ list-last (now (now (a .t))) (a .low) (a .high) _ (a .at) _ _ r left (omega arith) (ap (λ (x : ℕ). eqb x 44) (sym (c .before .byte .ensures)) ∙ ne-eqb _ _ (c .if1 .left))
+    λ left h. ended-is _ _ (omega (arith, l))
+    ∙ list-last (now (now (a .t))) (a .low) (a .high) _ (a .at) _ _ r left (omega arith) (ap (λ (x : ℕ). eqb x 44) (sym (c .before .byte .ensures)) ∙ ne-eqb _ _ (c .if1 .left))
 
 pub +rest-from-spec : {M : Type 1} → statement M
 +rest-from-spec = close μ-rest-from λ t. rest-from-lts.spec (

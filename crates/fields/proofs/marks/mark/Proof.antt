@@ -39,7 +39,13 @@ sub-t11 c = let a = c .before .before .before .args in
 returns-4 : tie.Need-returns-4
 unfolding marksWith
 returns-4 c = let a = c .before .before .before .before .args in
-    rw (one-shifted (a .first) (omega arith), one-shifted (a .last + 1) (omega arith), le-leb (a .low) (a .first) (omega arith), le-leb (a .last) (a .high) (omega arith), le-leb (a .first) (a .last) (omega arith)) refl
+    rw (
+      one-shifted (a .first) (omega arith),
+      one-shifted (a .last + 1) (omega arith),
+      le-leb (a .low) (a .first) (omega arith),
+      le-leb (a .last) (a .high) (omega arith),
+      le-leb (a .first) (a .last) (omega arith),
+    ) refl
 
 pub mark-spec : {M : Type 1} → statement M
 mark-spec =

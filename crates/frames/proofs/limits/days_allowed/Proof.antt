@@ -17,7 +17,8 @@ both-ends-requires : tie.Need-both-ends-requires
 both-ends-requires c κs = search needs
 
 returns-2 : tie.Need-returns-2
-returns-2 c = λ n l h. c .both-ends .ensures n l h ∙ sym (given-day _ n _ (sym (c .before .before .no-limit .ensures) ∙ c .before .if1 .left))
+returns-2 c =
+    λ n l h. c .both-ends .ensures n l h ∙ sym (given-day _ n _ (sym (c .before .before .no-limit .ensures) ∙ c .before .if1 .left))
 
 pub days-allowed-spec : {M : Type 1} → statement M
 days-allowed-spec = tie.close (tie.spec no-limit-requires returns both-ends-requires returns-2)

@@ -25,7 +25,9 @@ returns c = let a = c .before .args in
     λ d l h.
     let e : 4 - a .n ≡ 5 - (a .n + 1) = omega arith in
     let w : ℕ = (a .first + (d - 1)) % 7 in
-    c .week-days .ensures d l h ∙ byte-bit (a .group) (4 - a .n) w (omega arith) (omega arith) ∙ ap (λ (j : ℕ). bit (a .group / 256 ^ j % 256) w) e
+    c .week-days .ensures d l h
+    ∙ byte-bit (a .group) (4 - a .n) w (omega arith) (omega arith)
+    ∙ ap (λ (j : ℕ). bit (a .group / 256 ^ j % 256) w) e
 
 pub ordinal-week-spec : {M : Type 1} → statement M
 ordinal-week-spec =

@@ -26,11 +26,13 @@ returns c = let a = c .before .before .before .before .before .args in
     λ n l h.
     bit-of-both _ _ n
     ∙ ap₂ _||_ (c .before .before .before .week-days .ensures n l (omega arith)) (c .ordinals-allowed .ensures n l h)
-    ∙ sym (ordinal-weekday (a .f) n (a .len + 1 - n) ((a .first + (n - 1)) % 7) (sym (o .ensures) ∙ not-true (o .result) (c .before .if1 .taken)))
+    ∙ sym
+    (ordinal-weekday (a .f) n (a .len + 1 - n) ((a .first + (n - 1)) % 7) (sym (o .ensures) ∙ not-true (o .result) (c .before .if1 .taken)))
 
 returns-2 : tie.Need-returns-2
 returns-2 c = let o = c .before .before .before .no-limit in
-    λ n l h. whole-bit n l (omega arith) ∙ sym (any-weekday _ n _ _ (sym (o .ensures) ∙ not-false (o .result) (c .before .before .if1 .left)) (c .if2 .taken))
+    λ n l h. whole-bit n l (omega arith)
+    ∙ sym (any-weekday _ n _ _ (sym (o .ensures) ∙ not-false (o .result) (c .before .before .if1 .left)) (c .if2 .taken))
 
 returns-3 : tie.Need-returns-3
 returns-3 c = let o = c .before .before .before .no-limit in

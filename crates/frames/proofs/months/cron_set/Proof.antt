@@ -37,7 +37,8 @@ returns c = let s = c .before .before .before .before .before .before .before in
     c .days-up-to .ensures
     ∙ month-same _ (λ n. cronDay (a .f) (dayOf (a .k) n)) (a .k) (len .result) (len .ensures)
     (λ n i.
-    let w = week n (i .low) (omega (arith, i .high, days-at-most (a .k))) ∙ ap (λ (x : ℕ). bit (a .f .weekdays) ((x + (n - 1)) % 7)) first in
+    let w =
+    week n (i .low) (omega (arith, i .high, days-at-most (a .k))) ∙ ap (λ (x : ℕ). bit (a .f .weekdays) ((x + (n - 1)) % 7)) first in
     bit-of-both (a .f .days) _ n
     ∙ ap (λ (b : Bool). bit (a .f .days) n || b) w
     ∙ sym (cron-day-at (a .f) (a .k) n i ∙ simp (s .pre .1, both-flags (a .f .flags) (c .before .before .if1 .taken))))
@@ -56,7 +57,8 @@ returns-2 c = let s = c .before .before .before .before .before .before .before 
     c .days-up-to2 .ensures
     ∙ month-same _ (λ n. cronDay (a .f) (dayOf (a .k) n)) (a .k) (len .result) (len .ensures)
     (λ n i.
-    let w = week n (i .low) (omega (arith, i .high, days-at-most (a .k))) ∙ ap (λ (x : ℕ). bit (a .f .weekdays) ((x + (n - 1)) % 7)) first in
+    let w =
+    week n (i .low) (omega (arith, i .high, days-at-most (a .k))) ∙ ap (λ (x : ℕ). bit (a .f .weekdays) ((x + (n - 1)) % 7)) first in
     bit-of-shared (a .f .days) _ n
     ∙ ap (λ (b : Bool). bit (a .f .days) n && b) w
     ∙ sym (cron-day-at (a .f) (a .k) n i ∙ simp (s .pre .1, not-both-flags (a .f .flags) (c .before .before .if1 .left))))

@@ -29,7 +29,8 @@ weekdays-allowed-requires c κs = let k = c .before .before .before .args .k in
     (rw (c .first-weekday .ensures) (weekday-at-most _), omega (arith, e, r .0), omega (arith, e, r .1))
 
 days-up-to-requires : tie.Need-days-up-to-requires
-days-up-to-requires c κs = omega (arith, c .before .before .before .month-days .ensures, days-at-most (c .before .before .before .before .args .k))
+days-up-to-requires c κs =
+    omega (arith, c .before .before .before .month-days .ensures, days-at-most (c .before .before .before .before .args .k))
 
 returns : tie.Need-returns
 returns c = let a = c .before .before .before .before .before .args in

@@ -17,7 +17,8 @@ abbrev wants : ℕ → ℕ → ℕ → Bool
 wants set wanted j = bit set j && bit wanted (bitsBelow set (j + 1))
 
 abbrev Inv-loop : tie.InvT-loop
-Inv-loop set len wanted picked₀ passed₀ n₀ picked passed n = (1 ≤ n) × (n ≤ len + 1) × (passed ≡ bitsBelow set n) × (picked ≡ maskFrom (wants set wanted) (n - 1) 1)
+Inv-loop set len wanted picked₀ passed₀ n₀ picked passed n =
+    (1 ≤ n) × (n ≤ len + 1) × (passed ≡ bitsBelow set n) × (picked ≡ maskFrom (wants set wanted) (n - 1) 1)
 
 abbrev μ-loop : tie.MeasureT-loop
 μ-loop set len wanted picked₀ passed₀ n₀ picked passed n = len + 1 - n

@@ -29,7 +29,8 @@ returns c = let a = c .before .args in
     let e : 31 - a .len + (n - 1) ≡ 31 - (a .len + 1 - n) = omega arith in
     let f : 31 - (31 - a .len + (n - 1)) ≡ a .len + 1 - n = omega arith in
     bit-of-multiple (r / 2 ^ (31 - a .len)) 1 n
-    ∙ (rw (le-leb 1 n l) (bit-of-quotient r (31 - a .len) (n - 1) ∙ c .reversed .ensures .1 (31 - a .len + (n - 1)) (omega arith) ∙ ap (bit (a .mask)) f))
+    ∙
+    (rw (le-leb 1 n l) (bit-of-quotient r (31 - a .len) (n - 1) ∙ c .reversed .ensures .1 (31 - a .len + (n - 1)) (omega arith) ∙ ap (bit (a .mask)) f))
 
 pub turned-spec : {M : Type 1} → statement M
 turned-spec = tie.close (tie.spec reversed-requires sub-result shr-result mul-result returns)

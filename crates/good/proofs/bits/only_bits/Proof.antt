@@ -24,7 +24,9 @@ shl-result : tie.Need-shl-result
 shl-result c = search needs
 
 returns-2 : tie.Need-returns-2
-returns-2 c = let a = c .before .args in rw (one-shifted (a .high + 1) (omega arith), eq-eqb _ 0 (rw (one-shifted (a .low) (omega arith)) at (c .if1 .left)))
+returns-2 c =
+    let a = c .before .args in
+    rw (one-shifted (a .high + 1) (omega arith), eq-eqb _ 0 (rw (one-shifted (a .low) (omega arith)) at (c .if1 .left)))
 
 pub only-bits-spec : {M : Type 1} → statement M
 only-bits-spec = tie.close (tie.spec shl-if1 rem-if1 returns add-result shl-result returns-2)

@@ -21,7 +21,8 @@ days c = passed (c .before .mask-good3 .ensures) (c .if3 .left)
 months : (c : tie.Else4) → maskGood 1 12 (c .before .before .before .before .before .before .before .before .args .f .months) ≡ true
 months c = passed (c .before .mask-good4 .ensures) (c .if4 .left)
 
-weekdays : (c : tie.Else5) → maskGood 0 6 (c .before .before .before .before .before .before .before .before .before .before .args .f .weekdays) ≡ true
+weekdays : (c : tie.Else5)
+    → maskGood 0 6 (c .before .before .before .before .before .before .before .before .before .before .args .f .weekdays) ≡ true
 weekdays c = passed (c .before .mask-good5 .ensures) (c .if5 .left)
 
 mask-good-requires : tie.Need-mask-good-requires
@@ -101,7 +102,17 @@ returns-7 c =
     let e3 = e4 .before .before in
     let e2 = e3 .before .before in
     let e1 = e2 .before .before in
-    rw (c .both .ensures, c .before .flag-good2 .ensures, c .before .before .flag-good .ensures, minutes e1, hours e2, days e3, months e4, weekdays e5, lt-ltb _ 4 (e6 .if6 .left))
+    rw (
+      c .both .ensures,
+      c .before .flag-good2 .ensures,
+      c .before .before .flag-good .ensures,
+      minutes e1,
+      hours e2,
+      days e3,
+      months e4,
+      weekdays e5,
+      lt-ltb _ 4 (e6 .if6 .left),
+    )
 
 pub cron-good-spec : {M : Type 1} → statement M
 cron-good-spec =

@@ -20,7 +20,12 @@ both-requires c κs = search needs
 returns : tie.Need-returns
 returns c =
     let n = c .before .before .before in
-    rw (daily-good (n .before .before .before .args .f) (c .before .if1 .taken), c .both .ensures, n .before .before .no-limit .ensures, n .before .no-limit2 .ensures)
+    rw (
+      daily-good (n .before .before .before .args .f) (c .before .if1 .taken),
+      c .both .ensures,
+      n .before .before .no-limit .ensures,
+      n .before .no-limit2 .ensures,
+    )
 
 both-requires-2 : tie.Need-both-requires-2
 both-requires-2 c κs = search needs
@@ -35,7 +40,15 @@ returns-2 : tie.Need-returns-2
 returns-2 c =
     let t = c .before .before .before .before in
     let n = t .before .before .before .before in
-    rw (weekly-good (n .before .before .before .args .f) (t .if2 .taken), c .both4 .ensures, c .before .both3 .ensures, c .before .before .both2 .ensures, n .no-limit3 .ensures, n .before .before .no-limit .ensures, n .before .no-limit2 .ensures)
+    rw (
+      weekly-good (n .before .before .before .args .f) (t .if2 .taken),
+      c .both4 .ensures,
+      c .before .both3 .ensures,
+      c .before .before .both2 .ensures,
+      n .no-limit3 .ensures,
+      n .before .before .no-limit .ensures,
+      n .before .no-limit2 .ensures,
+    )
 
 both-requires-5 : tie.Need-both-requires-5
 both-requires-5 c κs = search needs
@@ -47,7 +60,13 @@ returns-3 : tie.Need-returns-3
 returns-3 c =
     let t = c .before .before .before in
     let n = t .before .before .before .before .before .before in
-    rw (monthly-good (n .before .before .before .args .f) (t .if3 .taken), c .both6 .ensures, c .before .both5 .ensures, n .no-limit3 .ensures, n .before .before .no-limit .ensures)
+    rw (
+      monthly-good (n .before .before .before .args .f) (t .if3 .taken),
+      c .both6 .ensures,
+      c .before .both5 .ensures,
+      n .no-limit3 .ensures,
+      n .before .before .no-limit .ensures,
+    )
 
 returns-4 : tie.Need-returns-4
 returns-4 c =

@@ -31,7 +31,14 @@ returns-5 c =
     let e3 = e4 .before in
     let e2 = e3 .before in
     let e1 = e2 .before in
-    rw (ordinals-by-bytes, lt-ltb _ _ (e1 .if1 .left), lt-ltb _ _ (e2 .if2 .left), lt-ltb _ _ (e3 .if3 .left), lt-ltb _ _ (e4 .if4 .left), le-ltb _ _ (c .if5 .taken))
+    rw (
+      ordinals-by-bytes,
+      lt-ltb _ _ (e1 .if1 .left),
+      lt-ltb _ _ (e2 .if2 .left),
+      lt-ltb _ _ (e3 .if3 .left),
+      lt-ltb _ _ (e4 .if4 .left),
+      le-ltb _ _ (c .if5 .taken),
+    )
 
 returns-6 : tie.Need-returns-6
 returns-6 c =
@@ -40,7 +47,14 @@ returns-6 c =
     let e3 = e4 .before in
     let e2 = e3 .before in
     let e1 = e2 .before in
-    rw (ordinals-by-bytes, lt-ltb _ _ (e1 .if1 .left), lt-ltb _ _ (e2 .if2 .left), lt-ltb _ _ (e3 .if3 .left), lt-ltb _ _ (e4 .if4 .left), lt-ltb _ _ (e5 .if5 .left))
+    rw (
+      ordinals-by-bytes,
+      lt-ltb _ _ (e1 .if1 .left),
+      lt-ltb _ _ (e2 .if2 .left),
+      lt-ltb _ _ (e3 .if3 .left),
+      lt-ltb _ _ (e4 .if4 .left),
+      lt-ltb _ _ (e5 .if5 .left),
+    )
 
 pub ordinals-good-spec : {M : Type 1} → statement M
 ordinals-good-spec = tie.close (tie.spec returns returns-2 returns-3 returns-4 returns-5 returns-6)

@@ -75,7 +75,8 @@ returns-6 c =
     let d = e .before .before in
     let b = d .before .before in
     let a = b .before .before in
-    rw (frequency a, places b, interval d, lt-ltb _ _ (e .if4 .left), le-leb _ _ (g .if5 .left)) (c .start-held .ensures ∙ rw (lt-ltb (a .before .before .args .f .start) windowMinutes (omega arith)))
+    rw (frequency a, places b, interval d, lt-ltb _ _ (e .if4 .left), le-leb _ _ (g .if5 .left))
+    (c .start-held .ensures ∙ rw (lt-ltb (a .before .before .args .f .start) windowMinutes (omega arith)))
 
 pub rule-good-spec : {M : Type 1} → statement M
 rule-good-spec =

@@ -40,7 +40,8 @@ returns-2 c = let s = c .before .before .before .before in
     let p = s .pre in
     let end = (a .high + 1439) / 1440 in
     let found = c .before .before .before .least-day in
-    let d : Least (dayHeld l) (a .low / 1440) end (found .result) = rw (found .ensures) (least-day-least l (a .low / 1440) end (omega arith) (omega arith)) in
+    let d : Least (dayHeld l) (a .low / 1440) end (found .result) =
+    rw (found .ensures) (least-day-least l (a .low / 1440) end (omega arith) (omega arith)) in
     rw (c .lesser .ensures)
     (found-today (dayHeld l) (timePart l) (a .low) (a .high) (found .result) (a .time) (omega arith) (c .before .if2 .taken) (d .passes (c .before .before .if1 .left)) (p .2) (p .3))
 
@@ -63,7 +64,8 @@ returns-3 c = let s = c .before .before .before .before .before in
     let p = s .pre in
     let end = (a .high + 1439) / 1440 in
     let found = c .before .before .before .before .least-day in
-    let d : Least (dayHeld l) (a .low / 1440) end (found .result) = rw (found .ensures) (least-day-least l (a .low / 1440) end (omega arith) (omega arith)) in
+    let d : Least (dayHeld l) (a .low / 1440) end (found .result) =
+    rw (found .ensures) (least-day-least l (a .low / 1440) end (omega arith) (omega arith)) in
     let later : a .low / 1440 < found .result = omega (arith, d .from, c .before .before .if2 .left) in
     let time = c .before .next-time .ensures in
     rw (c .lesser2 .ensures)

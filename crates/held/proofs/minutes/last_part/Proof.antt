@@ -55,7 +55,8 @@ returns-4 : tie.Need-returns-4
 returns-4 c = let a = c .before .before .before .before .before .before .args in
     let l = now (a .f) in
     last-before (minutePart l) (a .low) (1440 * ((a .high - 1) / 1440)) (a .high) _ (omega arith)
-    (λ j b g. time-before (dayHeld l) (timePart l) (a .high) _ (omega arith) (c .before .before .before .before .before .last-time .ensures) (omega arith) j b g) (c .up-to-time2 .ensures)
+    (λ j b g. time-before (dayHeld l) (timePart l) (a .high) _ (omega arith) (c .before .before .before .before .before .last-time .ensures) (omega arith) j b g)
+    (c .up-to-time2 .ensures)
 
 pub last-part-spec : {M : Type 1} → statement M
 last-part-spec =

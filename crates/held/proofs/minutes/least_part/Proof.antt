@@ -51,7 +51,8 @@ returns-4 : tie.Need-returns-4
 returns-4 c = let a = c .before .before .before .before .before .before .args in
     let l = now (a .f) in
     least-after (minutePart l) (a .low) (1440 * (a .low / 1440 + 1)) (a .high) _ (omega arith)
-    (λ j b g. time-past (dayHeld l) (timePart l) (a .low) _ (c .before .before .before .before .before .next-time .ensures) (omega arith) j b g) (c .from-time2 .ensures)
+    (λ j b g. time-past (dayHeld l) (timePart l) (a .low) _ (c .before .before .before .before .before .next-time .ensures) (omega arith) j b g)
+    (c .from-time2 .ensures)
 
 pub least-part-spec : {M : Type 1} → statement M
 least-part-spec =

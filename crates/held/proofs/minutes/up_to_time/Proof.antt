@@ -44,7 +44,8 @@ returns-2 c = let s = c .before .before .before .before in
     let p = s .pre in
     let end = (a .high - 1) / 1440 + 1 in
     let past = c .before .before .before .last-day in
-    let d : Last (dayHeld l) (a .low / 1440) end (past .result) = rw (past .ensures) (last-day-last l (a .low / 1440) end (omega arith) (omega arith)) in
+    let d : Last (dayHeld l) (a .low / 1440) end (past .result) =
+    rw (past .ensures) (last-day-last l (a .low / 1440) end (omega arith) (omega arith)) in
     let e : past .result - 1 ≡ (a .high - 1) / 1440 = omega (arith, d .to) in
     rw (c .larger .ensures)
     (last-today (dayHeld l) (timePart l) (a .low) (a .high) ((a .high - 1) / 1440) (a .time) (p .0) refl (sym (ap (dayHeld l) e) ∙ d .passes (omega arith)) (p .2) (p .3))
@@ -71,7 +72,8 @@ returns-3 c = let s = c .before .before .before .before .before in
     let p = s .pre in
     let end = (a .high - 1) / 1440 + 1 in
     let past = c .before .before .before .before .last-day in
-    let d : Last (dayHeld l) (a .low / 1440) end (past .result) = rw (past .ensures) (last-day-last l (a .low / 1440) end (omega arith) (omega arith)) in
+    let d : Last (dayHeld l) (a .low / 1440) end (past .result) =
+    rw (past .ensures) (last-day-last l (a .low / 1440) end (omega arith) (omega arith)) in
     let time = c .before .last-time .ensures in
     rw (c .larger2 .ensures)
     (last-earlier (dayHeld l) (timePart l) (a .low) (a .high) (past .result) _ (p .0) d (omega arith) (omega arith) time

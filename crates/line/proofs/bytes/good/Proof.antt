@@ -45,12 +45,18 @@ loop-less c = search needs
 loop-again : tie.Need-loop-again Inv-loop μ-loop
 loop-again c = let s = now (c .before .before .before .before .before .before .before .before .args .line) in
     let l = c .before .before .before .before .before .loop in
-    let w = c .both .ensures ∙ ap (λ (x : Bool). x && l .good) (c .before .lies-within .ensures ∙ ap (within 32 126) (c .before .before .wide .ensures)) in
-    l .inv ∙ ap (λ (x : Bool). l .good && x) (passed-one s (l .i) (omega arith) (within 32 126 (getD s (l .i) 0)) refl) ∙ joined (l .good) (within 32 126 (getD s (l .i) 0)) (passes (drop (l .i + 1) s)) ∙ ap (λ (x : Bool). x && passes (drop (l .i + 1) s)) (sym w)
+    let w =
+    c .both .ensures
+    ∙ ap (λ (x : Bool). x && l .good) (c .before .lies-within .ensures ∙ ap (within 32 126) (c .before .before .wide .ensures)) in
+    l .inv
+    ∙ ap (λ (x : Bool). l .good && x) (passed-one s (l .i) (omega arith) (within 32 126 (getD s (l .i) 0)) refl)
+    ∙ joined (l .good) (within 32 126 (getD s (l .i) 0)) (passes (drop (l .i + 1) s))
+    ∙ ap (λ (x : Bool). x && passes (drop (l .i + 1) s)) (sym w)
 
 returns-2 : tie.Need-returns-2 Inv-loop μ-loop
 returns-2 c = let l = c .before .loop in
-    sym (l .inv ∙ ap (λ (x : Bool). l .good && x) (passed-all (now (c .before .before .before .before .args .line)) (l .i) (omega arith)) ∙ and-true (l .good))
+    sym
+    (l .inv ∙ ap (λ (x : Bool). l .good && x) (passed-all (now (c .before .before .before .before .args .line)) (l .i) (omega arith)) ∙ and-true (l .good))
 
 pub good-spec : {M : Type 1} → statement M
 good-spec =

@@ -36,7 +36,8 @@ returns c = let a = c .before .before .before .before .before .before .args in
 returns-2 : tie.Need-returns-2
 returns-2 c = let a = c .before .before .before .before .before .before .args in
     let t = five-tied (now (a .line)) (omega arith) in
-    c .standing-line2 .ensures ∙ lined-outside (a .c) _ _ _ _ t _ (five-outside (now (a .line)) 2 _ (sym (c .before .before .five2 .given .1) ∙ c .before .before .before .before .five-at .ensures))
+    c .standing-line2 .ensures
+    ∙ lined-outside (a .c) _ _ _ _ t _ (five-outside (now (a .line)) 2 _ (sym (c .before .before .five2 .given .1) ∙ c .before .before .before .before .five-at .ensures))
 
 returns-3 : tie.Need-returns-3
 returns-3 c = let a = c .before .before .before .before .args in

@@ -28,7 +28,8 @@ other-stands-requires c κs = search needs
 
 returns : tie.Need-returns
 returns c = let a = c .before .before .args in
-    λ ps e w. out-of-place (contextAs (a .c)) (ruleForm (timeAs (a .t)) ps) (rule-place (a .c .before) _ ps ∙ sym (c .before .other-stands .ensures) ∙ not-true _ (c .if1 .taken))
+    λ ps e w. out-of-place (contextAs (a .c)) (ruleForm (timeAs (a .t)) ps)
+    (rule-place (a .c .before) _ ps ∙ sym (c .before .other-stands .ensures) ∙ not-true _ (c .if1 .taken))
 
 local-minute-requires : tie.Need-local-minute-requires
 local-minute-requires c κs = search needs
@@ -42,12 +43,16 @@ enum-told c = search needs
 returns-2 : tie.Need-returns-2
 unfolding inRange
 returns-2 c = let a = c .before .before .before .before .before .args in
-    λ ps e w. out-of-range (contextAs (a .c)) (ruleForm (timeAs (a .t)) ps) (rule-place (a .c .before) _ ps ∙ sym (c .before .before .before .before .other-stands .ensures) ∙ not-false _ (c .before .before .before .if1 .left)) (rw (time-outside (a .t) (sym (c .enum-told .given .1) ∙ c .before .before .local-minute .ensures)) refl)
+    λ ps e w. out-of-range (contextAs (a .c)) (ruleForm (timeAs (a .t)) ps)
+    (rule-place (a .c .before) _ ps ∙ sym (c .before .before .before .before .other-stands .ensures) ∙ not-false _ (c .before .before .before .if1 .left))
+    (rw (time-outside (a .t) (sym (c .enum-told .given .1) ∙ c .before .before .local-minute .ensures)) refl)
 
 returns-3 : tie.Need-returns-3
 unfolding inRange
 returns-3 c = let a = c .before .before .before .before .before .before .before .before .args in
-    λ ps e w. out-of-range (contextAs (a .c)) (ruleForm (timeAs (a .t)) ps) (rule-place (a .c .before) _ ps ∙ sym (c .before .before .before .before .before .before .before .other-stands .ensures) ∙ not-false _ (c .before .before .before .before .before .before .if1 .left)) (ap (λ x. timeInRange (timeAs (a .t)) && x) (sym (good-parts (a .p) ps e) ∙ not-true _ (c .if2 .taken)) ∙ and-false (timeInRange (timeAs (a .t))))
+    λ ps e w. out-of-range (contextAs (a .c)) (ruleForm (timeAs (a .t)) ps)
+    (rule-place (a .c .before) _ ps ∙ sym (c .before .before .before .before .before .before .before .other-stands .ensures) ∙ not-false _ (c .before .before .before .before .before .before .if1 .left))
+    (ap (λ x. timeInRange (timeAs (a .t)) && x) (sym (good-parts (a .p) ps e) ∙ not-true _ (c .if2 .taken)) ∙ and-false (timeInRange (timeAs (a .t))))
 
 rule-of-requires : tie.Need-rule-of-requires
 rule-of-requires c κs = search needs
@@ -64,23 +69,38 @@ enum-told-3 c = search needs
 returns-4 : tie.Need-returns-4
 unfolding inRange
 returns-4 c = let a = c .before .before .before .before .before .before .before .before .before .before .before .before .args in
-    λ ps e w. let m = time-told (a .t) _ (sym (c .before .before .before .before .before .before .before .start .given .1) ∙ c .before .before .before .before .before .before .before .before .before .local-minute .ensures) in
-    let r : inRange (ruleForm (timeAs (a .t)) ps) ≡ true = rw (m .0) (sym (good-parts (a .p) ps e) ∙ not-false _ (c .before .before .before .before .if2 .left)) in
-    ap ruledLine (sym (c .before .ruled .given .1) ∙ c .before .before .before .rule-of .ensures ∙ ap₂ ruledFrom e (sym (m .1))) ∙ lined-rule (a .c) (timeAs (a .t)) ps (sym (c .before .before .before .before .before .before .before .before .before .before .before .other-stands .ensures) ∙ not-false _ (c .before .before .before .before .before .before .before .before .before .before .if1 .left)) r w
+    λ ps e w. let m =
+    time-told (a .t) _ (sym (c .before .before .before .before .before .before .before .start .given .1) ∙ c .before .before .before .before .before .before .before .before .before .local-minute .ensures) in
+    let r : inRange (ruleForm (timeAs (a .t)) ps) ≡ true =
+    rw (m .0) (sym (good-parts (a .p) ps e) ∙ not-false _ (c .before .before .before .before .if2 .left)) in
+    ap ruledLine (sym (c .before .ruled .given .1) ∙ c .before .before .before .rule-of .ensures ∙ ap₂ ruledFrom e (sym (m .1)))
+    ∙ lined-rule (a .c) (timeAs (a .t)) ps
+    (sym (c .before .before .before .before .before .before .before .before .before .before .before .other-stands .ensures) ∙ not-false _ (c .before .before .before .before .before .before .before .before .before .before .if1 .left))
+    r w
 
 returns-5 : tie.Need-returns-5
 unfolding inRange
 returns-5 c = let a = c .before .before .before .before .before .before .before .before .before .before .before .args in
-    λ ps e w. let m = time-told (a .t) _ (sym (c .before .before .before .before .before .before .start .given .1) ∙ c .before .before .before .before .before .before .before .before .local-minute .ensures) in
-    let r : inRange (ruleForm (timeAs (a .t)) ps) ≡ true = rw (m .0) (sym (good-parts (a .p) ps e) ∙ not-false _ (c .before .before .before .if2 .left)) in
-    ap ruledLine (sym (c .enum-told2 .given .1) ∙ c .before .before .rule-of .ensures ∙ ap₂ ruledFrom e (sym (m .1))) ∙ lined-rule (a .c) (timeAs (a .t)) ps (sym (c .before .before .before .before .before .before .before .before .before .before .other-stands .ensures) ∙ not-false _ (c .before .before .before .before .before .before .before .before .before .if1 .left)) r w
+    λ ps e w. let m =
+    time-told (a .t) _ (sym (c .before .before .before .before .before .before .start .given .1) ∙ c .before .before .before .before .before .before .before .before .local-minute .ensures) in
+    let r : inRange (ruleForm (timeAs (a .t)) ps) ≡ true =
+    rw (m .0) (sym (good-parts (a .p) ps e) ∙ not-false _ (c .before .before .before .if2 .left)) in
+    ap ruledLine (sym (c .enum-told2 .given .1) ∙ c .before .before .rule-of .ensures ∙ ap₂ ruledFrom e (sym (m .1)))
+    ∙ lined-rule (a .c) (timeAs (a .t)) ps
+    (sym (c .before .before .before .before .before .before .before .before .before .before .other-stands .ensures) ∙ not-false _ (c .before .before .before .before .before .before .before .before .before .if1 .left))
+    r w
 
 returns-6 : tie.Need-returns-6
 unfolding inRange
 returns-6 c = let a = c .before .before .before .before .before .before .before .before .before .before .before .args in
-    λ ps e w. let m = time-told (a .t) _ (sym (c .before .before .before .before .before .before .start .given .1) ∙ c .before .before .before .before .before .before .before .before .local-minute .ensures) in
-    let r : inRange (ruleForm (timeAs (a .t)) ps) ≡ true = rw (m .0) (sym (good-parts (a .p) ps e) ∙ not-false _ (c .before .before .before .if2 .left)) in
-    ap ruledLine (sym (c .enum-told3 .given .1) ∙ c .before .before .rule-of .ensures ∙ ap₂ ruledFrom e (sym (m .1))) ∙ lined-rule (a .c) (timeAs (a .t)) ps (sym (c .before .before .before .before .before .before .before .before .before .before .other-stands .ensures) ∙ not-false _ (c .before .before .before .before .before .before .before .before .before .if1 .left)) r w
+    λ ps e w. let m =
+    time-told (a .t) _ (sym (c .before .before .before .before .before .before .start .given .1) ∙ c .before .before .before .before .before .before .before .before .local-minute .ensures) in
+    let r : inRange (ruleForm (timeAs (a .t)) ps) ≡ true =
+    rw (m .0) (sym (good-parts (a .p) ps e) ∙ not-false _ (c .before .before .before .if2 .left)) in
+    ap ruledLine (sym (c .enum-told3 .given .1) ∙ c .before .before .rule-of .ensures ∙ ap₂ ruledFrom e (sym (m .1)))
+    ∙ lined-rule (a .c) (timeAs (a .t)) ps
+    (sym (c .before .before .before .before .before .before .before .before .before .before .other-stands .ensures) ∙ not-false _ (c .before .before .before .before .before .before .before .before .before .if1 .left))
+    r w
 
 pub rule-spec : {M : Type 1} → statement M
 rule-spec =

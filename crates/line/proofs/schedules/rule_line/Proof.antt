@@ -37,7 +37,11 @@ returns-2 c = let a = c .before .before .before .before .before .before .before 
     lined-not (contextAs (a .c)) _ _ _ _ t (timed-no-space (now (a .line)) partsOf (partsRead (now (a .line))) ruleForm 2 _ _ (sym (c .before .before .before .before .before .time .ensures) ∙ c .before .before .before .time2 .given .1) (λ q. c .if1 .taken (c .before .byte .ensures ∙ q)))
 
 add-if2 : tie.Need-add-if2
-add-if2 c = omega (arith, byte-within (now (c .before .before .before .before .before .before .before .before .args .line)) _ 32 (omega arith) (sym (c .before .before .byte .ensures) ∙ c .before .if1 .left))
+add-if2 c =
+    omega (
+      arith,
+      byte-within (now (c .before .before .before .before .before .before .before .before .args .line)) _ 32 (omega arith) (sym (c .before .before .byte .ensures) ∙ c .before .if1 .left),
+    )
 
 parts-at-requires : tie.Need-parts-at-requires
 parts-at-requires c κs = search needs
@@ -54,21 +58,29 @@ returns-3 c = let a = c .before .before .before .before .before .before .before 
     lined-not (contextAs (a .c)) _ _ _ _ t (timed-no-value (now (a .line)) partsOf (partsRead (now (a .line))) ruleForm 2 _ _ (sym (c .before .before .before .before .before .before .before .before .before .time .ensures) ∙ c .before .before .before .before .before .before .before .time2 .given .1) (sym (c .before .before .before .before .before .byte .ensures) ∙ c .before .before .before .before .if1 .left) (no-parts _ (sym (c .enum-told2 .given .1) ∙ c .before .before .parts-at .ensures)))
 
 returns-4 : tie.Need-returns-4
-returns-4 c = let a = c .before .before .before .before .before .before .before .before .before .before .before .before .before .before .args in
+returns-4 c =
+    let a = c .before .before .before .before .before .before .before .before .before .before .before .before .before .before .args in
     let t = rule-tied (now (a .line)) (omega arith) in
-    let r = parts-are (partsRead (now (a .line)) _) _ _ (sym (c .before .before .before .parts .given .1) ∙ c .before .before .before .before .before .parts-at .ensures) in
-    let f = timed-read (now (a .line)) partsOf (partsRead (now (a .line))) ruleForm 2 _ _ (sym (c .before .before .before .before .before .before .before .before .before .before .before .before .time .ensures) ∙ c .before .before .before .before .before .before .before .before .before .before .time2 .given .1) (sym (c .before .before .before .before .before .before .before .before .byte .ensures) ∙ c .before .before .before .before .before .before .before .if1 .left) _ _ (r .read) in
+    let r =
+    parts-are (partsRead (now (a .line)) _) _ _ (sym (c .before .before .before .parts .given .1) ∙ c .before .before .before .before .before .parts-at .ensures) in
+    let f =
+    timed-read (now (a .line)) partsOf (partsRead (now (a .line))) ruleForm 2 _ _ (sym (c .before .before .before .before .before .before .before .before .before .before .before .before .time .ensures) ∙ c .before .before .before .before .before .before .before .before .before .before .time2 .given .1) (sym (c .before .before .before .before .before .before .before .before .byte .ensures) ∙ c .before .before .before .before .before .before .before .if1 .left) _ _ (r .read) in
     lined-short (contextAs (a .c)) _ _ _ _ t _ _ f (c .if2 .taken)
 
 rule-requires : tie.Need-rule-requires
 rule-requires c κs = search needs
 
 returns-5 : tie.Need-returns-5
-returns-5 c = let a = c .before .before .before .before .before .before .before .before .before .before .before .before .before .before .before .args in
+returns-5 c =
+    let a =
+    c .before .before .before .before .before .before .before .before .before .before .before .before .before .before .before .args in
     let t = rule-tied (now (a .line)) (omega arith) in
-    let r = parts-are (partsRead (now (a .line)) _) _ _ (sym (c .before .before .before .before .parts .given .1) ∙ c .before .before .before .before .before .before .parts-at .ensures) in
-    let f = timed-read (now (a .line)) partsOf (partsRead (now (a .line))) ruleForm 2 _ _ (sym (c .before .before .before .before .before .before .before .before .before .before .before .before .before .time .ensures) ∙ c .before .before .before .before .before .before .before .before .before .before .before .time2 .given .1) (sym (c .before .before .before .before .before .before .before .before .before .byte .ensures) ∙ c .before .before .before .before .before .before .before .before .if1 .left) _ _ (r .read) in
-    c .rule .ensures (r .parts) (r .same) (rule-form-written _ _ (form-whole (contextAs (a .c)) _ _ _ _ t _ _ f (c .before .if2 .left))) ∙ lined-whole (contextAs (a .c)) _ _ _ _ t _ _ f (c .before .if2 .left)
+    let r =
+    parts-are (partsRead (now (a .line)) _) _ _ (sym (c .before .before .before .before .parts .given .1) ∙ c .before .before .before .before .before .before .parts-at .ensures) in
+    let f =
+    timed-read (now (a .line)) partsOf (partsRead (now (a .line))) ruleForm 2 _ _ (sym (c .before .before .before .before .before .before .before .before .before .before .before .before .before .time .ensures) ∙ c .before .before .before .before .before .before .before .before .before .before .before .time2 .given .1) (sym (c .before .before .before .before .before .before .before .before .before .byte .ensures) ∙ c .before .before .before .before .before .before .before .before .if1 .left) _ _ (r .read) in
+    c .rule .ensures (r .parts) (r .same) (rule-form-written _ _ (form-whole (contextAs (a .c)) _ _ _ _ t _ _ f (c .before .if2 .left)))
+    ∙ lined-whole (contextAs (a .c)) _ _ _ _ t _ _ f (c .before .if2 .left)
 
 pub rule-line-spec : {M : Type 1} → statement M
 rule-line-spec =

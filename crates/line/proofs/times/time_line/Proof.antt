@@ -39,7 +39,8 @@ other-stands-requires c κs = search needs
 returns-3 : tie.Need-returns-3
 returns-3 c = let a = c .before .before .before .before .before .before .before .before .before .args in
     let t = moment-tied (now (a .line)) (omega arith) (momentForm (a .excepted)) in
-    moment-out-of-place (a .c) (a .excepted) _ (sym (c .before .other-stands .ensures) ∙ not-true _ (c .if2 .taken)) ∙ lined-whole (contextAs (a .c)) _ _ _ _ t _ _ (ap (λ x. madeRead (momentForm (a .excepted)) (timeRead x)) (sym (c .before .before .before .before .before .before .before .time .ensures) ∙ c .before .before .before .before .before .time2 .given .1)) (c .before .before .if1 .left)
+    moment-out-of-place (a .c) (a .excepted) _ (sym (c .before .other-stands .ensures) ∙ not-true _ (c .if2 .taken))
+    ∙ lined-whole (contextAs (a .c)) _ _ _ _ t _ _ (ap (λ x. madeRead (momentForm (a .excepted)) (timeRead x)) (sym (c .before .before .before .before .before .before .before .time .ensures) ∙ c .before .before .before .before .before .time2 .given .1)) (c .before .before .if1 .left)
 
 local-minute-requires : tie.Need-local-minute-requires
 local-minute-requires c κs = search needs
@@ -53,19 +54,24 @@ enum-told-2 c = search needs
 returns-4 : tie.Need-returns-4
 returns-4 c = let a = c .before .before .before .before .before .before .before .before .before .before .before .before .args in
     let t = moment-tied (now (a .line)) (omega arith) (momentForm (a .excepted)) in
-    moment-out-of-range (a .c) (a .excepted) _ (sym (c .before .before .before .before .other-stands .ensures) ∙ not-false _ (c .before .before .before .if2 .left)) (time-outside _ (sym (c .enum-told2 .given .1) ∙ c .before .before .local-minute .ensures)) ∙ lined-whole (contextAs (a .c)) _ _ _ _ t _ _ (ap (λ x. madeRead (momentForm (a .excepted)) (timeRead x)) (sym (c .before .before .before .before .before .before .before .before .before .before .time .ensures) ∙ c .before .before .before .before .before .before .before .before .time2 .given .1)) (c .before .before .before .before .before .if1 .left)
+    moment-out-of-range (a .c) (a .excepted) _ (sym (c .before .before .before .before .other-stands .ensures) ∙ not-false _ (c .before .before .before .if2 .left)) (time-outside _ (sym (c .enum-told2 .given .1) ∙ c .before .before .local-minute .ensures))
+    ∙ lined-whole (contextAs (a .c)) _ _ _ _ t _ _ (ap (λ x. madeRead (momentForm (a .excepted)) (timeRead x)) (sym (c .before .before .before .before .before .before .before .before .before .before .time .ensures) ∙ c .before .before .before .before .before .before .before .before .time2 .given .1)) (c .before .before .before .before .before .if1 .left)
 
 returns-5 : tie.Need-returns-5
-returns-5 c = let a = c .before .before .before .before .before .before .before .before .before .before .before .before .before .before .args in
+returns-5 c =
+    let a = c .before .before .before .before .before .before .before .before .before .before .before .before .before .before .args in
     let t = moment-tied (now (a .line)) (omega arith) (momentForm (a .excepted)) in
     let m = time-told _ _ (sym (c .before .before .minute .given .1) ∙ c .before .before .before .before .local-minute .ensures) in
-    rw (sym (m .1)) (ap (λ x. Lined.Is x) (rw (c .if3 .taken) refl) ∙ moment-taken (a .c) (a .excepted) _ (sym (c .before .before .before .before .before .before .other-stands .ensures) ∙ not-false _ (c .before .before .before .before .before .if2 .left)) (m .0) ∙ lined-whole (contextAs (a .c)) _ _ _ _ t _ _ (ap (λ x. madeRead (momentForm (a .excepted)) (timeRead x)) (sym (c .before .before .before .before .before .before .before .before .before .before .before .before .time .ensures) ∙ c .before .before .before .before .before .before .before .before .before .before .time2 .given .1)) (c .before .before .before .before .before .before .before .if1 .left))
+    rw (sym (m .1))
+    (ap (λ x. Lined.Is x) (rw (c .if3 .taken) refl) ∙ moment-taken (a .c) (a .excepted) _ (sym (c .before .before .before .before .before .before .other-stands .ensures) ∙ not-false _ (c .before .before .before .before .before .if2 .left)) (m .0) ∙ lined-whole (contextAs (a .c)) _ _ _ _ t _ _ (ap (λ x. madeRead (momentForm (a .excepted)) (timeRead x)) (sym (c .before .before .before .before .before .before .before .before .before .before .before .before .time .ensures) ∙ c .before .before .before .before .before .before .before .before .before .before .time2 .given .1)) (c .before .before .before .before .before .before .before .if1 .left))
 
 returns-6 : tie.Need-returns-6
-returns-6 c = let a = c .before .before .before .before .before .before .before .before .before .before .before .before .before .before .args in
+returns-6 c =
+    let a = c .before .before .before .before .before .before .before .before .before .before .before .before .before .before .args in
     let t = moment-tied (now (a .line)) (omega arith) (momentForm (a .excepted)) in
     let m = time-told _ _ (sym (c .before .before .minute .given .1) ∙ c .before .before .before .before .local-minute .ensures) in
-    rw (sym (m .1)) (ap (λ x. Lined.Is x) (rw (c .if3 .left) refl) ∙ moment-taken (a .c) (a .excepted) _ (sym (c .before .before .before .before .before .before .other-stands .ensures) ∙ not-false _ (c .before .before .before .before .before .if2 .left)) (m .0) ∙ lined-whole (contextAs (a .c)) _ _ _ _ t _ _ (ap (λ x. madeRead (momentForm (a .excepted)) (timeRead x)) (sym (c .before .before .before .before .before .before .before .before .before .before .before .before .time .ensures) ∙ c .before .before .before .before .before .before .before .before .before .before .time2 .given .1)) (c .before .before .before .before .before .before .before .if1 .left))
+    rw (sym (m .1))
+    (ap (λ x. Lined.Is x) (rw (c .if3 .left) refl) ∙ moment-taken (a .c) (a .excepted) _ (sym (c .before .before .before .before .before .before .other-stands .ensures) ∙ not-false _ (c .before .before .before .before .before .if2 .left)) (m .0) ∙ lined-whole (contextAs (a .c)) _ _ _ _ t _ _ (ap (λ x. madeRead (momentForm (a .excepted)) (timeRead x)) (sym (c .before .before .before .before .before .before .before .before .before .before .before .before .time .ensures) ∙ c .before .before .before .before .before .before .before .before .before .before .time2 .given .1)) (c .before .before .before .before .before .before .before .if1 .left))
 
 pub time-line-spec : {M : Type 1} → statement M
 time-line-spec =

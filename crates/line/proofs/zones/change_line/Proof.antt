@@ -36,7 +36,11 @@ returns-2 c = let a = c .before .before .before .before .before .before .before 
     lined-not (contextAs (a .c)) _ _ _ _ t (timed-no-space (now (a .line)) shiftOf (shiftHere (now (a .line))) changeForm 2 _ _ (sym (c .before .before .before .before .before .time .ensures) ∙ c .before .before .before .time2 .given .1) (λ q. c .if1 .taken (c .before .byte .ensures ∙ q)))
 
 add-if2 : tie.Need-add-if2
-add-if2 c = omega (arith, byte-within (now (c .before .before .before .before .before .before .before .before .args .line)) _ 32 (omega arith) (sym (c .before .before .byte .ensures) ∙ c .before .if1 .left))
+add-if2 c =
+    omega (
+      arith,
+      byte-within (now (c .before .before .before .before .before .before .before .before .args .line)) _ 32 (omega arith) (sym (c .before .before .byte .ensures) ∙ c .before .if1 .left),
+    )
 
 shift-requires : tie.Need-shift-requires
 shift-requires c κs = search needs
@@ -53,7 +57,8 @@ returns-3 c = let a = c .before .before .before .before .before .before .before 
     lined-not (contextAs (a .c)) _ _ _ _ t (timed-no-value (now (a .line)) shiftOf (shiftHere (now (a .line))) changeForm 2 _ _ (sym (c .before .before .before .before .before .before .before .before .before .time .ensures) ∙ c .before .before .before .before .before .before .before .time2 .given .1) (sym (c .before .before .before .before .before .byte .ensures) ∙ c .before .before .before .before .if1 .left) (ap shiftRead (sym (c .before .before .shift .ensures) ∙ c .enum-told2 .given .1)))
 
 returns-4 : tie.Need-returns-4
-returns-4 c = let a = c .before .before .before .before .before .before .before .before .before .before .before .before .before .before .args in
+returns-4 c =
+    let a = c .before .before .before .before .before .before .before .before .before .before .before .before .before .before .args in
     let t = change-tied (now (a .line)) (omega arith) in
     lined-short (contextAs (a .c)) _ _ _ _ t _ _ (timed-read (now (a .line)) shiftOf (shiftHere (now (a .line))) changeForm 2 _ _ (sym (c .before .before .before .before .before .before .before .before .before .before .before .before .time .ensures) ∙ c .before .before .before .before .before .before .before .before .before .before .time2 .given .1) (sym (c .before .before .before .before .before .before .before .before .byte .ensures) ∙ c .before .before .before .before .before .before .before .if1 .left) _ _ (ap shiftRead (sym (c .before .before .before .before .before .shift .ensures) ∙ c .before .before .before .shift2 .given .1))) (c .if2 .taken)
 
@@ -61,9 +66,12 @@ change-requires : tie.Need-change-requires
 change-requires c κs = search needs
 
 returns-5 : tie.Need-returns-5
-returns-5 c = let a = c .before .before .before .before .before .before .before .before .before .before .before .before .before .before .before .args in
+returns-5 c =
+    let a =
+    c .before .before .before .before .before .before .before .before .before .before .before .before .before .before .before .args in
     let t = change-tied (now (a .line)) (omega arith) in
-    c .change .ensures ∙ lined-whole (contextAs (a .c)) _ _ _ _ t _ _ (timed-read (now (a .line)) shiftOf (shiftHere (now (a .line))) changeForm 2 _ _ (sym (c .before .before .before .before .before .before .before .before .before .before .before .before .before .time .ensures) ∙ c .before .before .before .before .before .before .before .before .before .before .before .time2 .given .1) (sym (c .before .before .before .before .before .before .before .before .before .byte .ensures) ∙ c .before .before .before .before .before .before .before .before .if1 .left) _ _ (ap shiftRead (sym (c .before .before .before .before .before .before .shift .ensures) ∙ c .before .before .before .before .shift2 .given .1))) (c .before .if2 .left)
+    c .change .ensures
+    ∙ lined-whole (contextAs (a .c)) _ _ _ _ t _ _ (timed-read (now (a .line)) shiftOf (shiftHere (now (a .line))) changeForm 2 _ _ (sym (c .before .before .before .before .before .before .before .before .before .before .before .before .before .time .ensures) ∙ c .before .before .before .before .before .before .before .before .before .before .before .time2 .given .1) (sym (c .before .before .before .before .before .before .before .before .before .byte .ensures) ∙ c .before .before .before .before .before .before .before .before .if1 .left) _ _ (ap shiftRead (sym (c .before .before .before .before .before .before .shift .ensures) ∙ c .before .before .before .before .shift2 .given .1))) (c .before .if2 .left)
 
 pub change-line-spec : {M : Type 1} → statement M
 change-line-spec =

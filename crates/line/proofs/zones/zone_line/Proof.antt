@@ -43,7 +43,9 @@ zone-stands-requires c κs = search needs
 returns-3 : tie.Need-returns-3
 returns-3 c = let a = c .before .before .before .before .before .before .before .before .before .args in
     let t = zone-tied (now (a .line)) (omega arith) in
-    out-of-place (contextAs (a .c)) (zone (shiftAs _)) (zone-place (a .c .before) _ ∙ sym (c .before .zone-stands .ensures) ∙ not-true _ (c .if2 .taken)) ∙ lined-whole (contextAs (a .c)) _ _ _ _ t _ _ (ap (λ x. madeRead zone (shiftRead x)) (sym (c .before .before .before .before .before .before .before .shift .ensures) ∙ c .before .before .before .before .before .shift2 .given .1)) (c .before .before .if1 .left)
+    out-of-place (contextAs (a .c)) (zone (shiftAs _))
+    (zone-place (a .c .before) _ ∙ sym (c .before .zone-stands .ensures) ∙ not-true _ (c .if2 .taken))
+    ∙ lined-whole (contextAs (a .c)) _ _ _ _ t _ _ (ap (λ x. madeRead zone (shiftRead x)) (sym (c .before .before .before .before .before .before .before .shift .ensures) ∙ c .before .before .before .before .before .shift2 .given .1)) (c .before .before .if1 .left)
 
 offset-of-requires : tie.Need-offset-of-requires
 offset-of-requires c κs = search needs
@@ -58,14 +60,18 @@ returns-4 : tie.Need-returns-4
 unfolding inRange
 returns-4 c = let a = c .before .before .before .before .before .before .before .before .before .before .before .before .args in
     let t = zone-tied (now (a .line)) (omega arith) in
-    out-of-range (contextAs (a .c)) (zone (shiftAs _)) (zone-place (a .c .before) _ ∙ sym (c .before .before .before .before .zone-stands .ensures) ∙ not-false _ (c .before .before .before .if2 .left)) (shift-outside _ (sym (c .enum-told2 .given .1) ∙ c .before .before .offset-of .ensures)) ∙ lined-whole (contextAs (a .c)) _ _ _ _ t _ _ (ap (λ x. madeRead zone (shiftRead x)) (sym (c .before .before .before .before .before .before .before .before .before .before .shift .ensures) ∙ c .before .before .before .before .before .before .before .before .shift2 .given .1)) (c .before .before .before .before .before .if1 .left)
+    out-of-range (contextAs (a .c)) (zone (shiftAs _))
+    (zone-place (a .c .before) _ ∙ sym (c .before .before .before .before .zone-stands .ensures) ∙ not-false _ (c .before .before .before .if2 .left))
+    (shift-outside _ (sym (c .enum-told2 .given .1) ∙ c .before .before .offset-of .ensures))
+    ∙ lined-whole (contextAs (a .c)) _ _ _ _ t _ _ (ap (λ x. madeRead zone (shiftRead x)) (sym (c .before .before .before .before .before .before .before .before .before .before .shift .ensures) ∙ c .before .before .before .before .before .before .before .before .shift2 .given .1)) (c .before .before .before .before .before .if1 .left)
 
 returns-5 : tie.Need-returns-5
 unfolding inRange together limitsKept startOccurs frameOf
 returns-5 c = let a = c .before .before .before .before .before .before .before .before .before .before .before .before .before .args in
     let t = zone-tied (now (a .line)) (omega arith) in
     let o = shift-told _ _ (sym (c .before .offset .given .1) ∙ c .before .before .before .offset-of .ensures) in
-    rw (sym (o .1)) (taken (contextAs (a .c)) (zone (shiftAs _)) (zone-place (a .c .before) _ ∙ sym (c .before .before .before .before .before .zone-stands .ensures) ∙ not-false _ (c .before .before .before .before .if2 .left)) (o .0) refl refl refl ∙ lined-whole (contextAs (a .c)) _ _ _ _ t _ _ (ap (λ x. madeRead zone (shiftRead x)) (sym (c .before .before .before .before .before .before .before .before .before .before .before .shift .ensures) ∙ c .before .before .before .before .before .before .before .before .before .shift2 .given .1)) (c .before .before .before .before .before .before .if1 .left))
+    rw (sym (o .1))
+    (taken (contextAs (a .c)) (zone (shiftAs _)) (zone-place (a .c .before) _ ∙ sym (c .before .before .before .before .before .zone-stands .ensures) ∙ not-false _ (c .before .before .before .before .if2 .left)) (o .0) refl refl refl ∙ lined-whole (contextAs (a .c)) _ _ _ _ t _ _ (ap (λ x. madeRead zone (shiftRead x)) (sym (c .before .before .before .before .before .before .before .before .before .before .before .shift .ensures) ∙ c .before .before .before .before .before .before .before .before .before .shift2 .given .1)) (c .before .before .before .before .before .before .if1 .left))
 
 pub zone-line-spec : {M : Type 1} → statement M
 zone-line-spec =

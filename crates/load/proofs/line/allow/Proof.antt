@@ -47,7 +47,8 @@ returns-3 c = let a = c .before .before .before .before .before .before .before 
     let f = c .before .before .before .before .before .frame .given in
     let g = c .before .number-good in
     let e : numberGood (a .n) (f .0 .0) ≡ false = sym (g .ensures) ∙ not-true (g .result) (c .if2 .taken) in
-    allowed-bad (a .n) b l (f .0 .0) (sym (c .before .before .before .before .before .before .before .read .ensures) ∙ f .1) (rw e (and-false (frameGood (f .0 .0))))
+    allowed-bad (a .n) b l (f .0 .0) (sym (c .before .before .before .before .before .before .before .read .ensures) ∙ f .1)
+    (rw e (and-false (frameGood (f .0 .0))))
 
 place-requires : tie.Need-place-requires
 place-requires c κs = let g = c .before .before .before .frame-good in
@@ -64,7 +65,9 @@ returns-4 c = let a = c .before .before .before .before .before .before .before 
     let l = now (a .line) in
     let b = beforeOf (a .before) in
     let f = c .before .before .before .before .before .before .before .before .frame .given in
-    allowed-not-placed (a .n) b l (f .0 .0) (sym (c .before .before .before .before .before .before .before .before .before .before .read .ensures) ∙ f .1) (sym (ap placedOf (c .enum-told2 .given .1)) ∙ c .before .before .place .ensures)
+    allowed-not-placed (a .n) b l (f .0 .0)
+    (sym (c .before .before .before .before .before .before .before .before .before .before .read .ensures) ∙ f .1)
+    (sym (ap placedOf (c .enum-told2 .given .1)) ∙ c .before .before .place .ensures)
 
 returns-5 : tie.Need-returns-5
 returns-5 c = let a = c .before .before .before .before .before .before .before .before .before .before .before .before .before .args in

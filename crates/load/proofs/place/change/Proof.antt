@@ -16,7 +16,8 @@ under-limits-requires c κs = search needs
 
 returns-2 : tie.Need-returns-2
 returns-2 c = let a = c .before .before .before .before .args in
-    change-broken (a .edge .changes) (a .edge .low) (a .edge .offset) (a .t) (sym (c .before .under-limits .ensures) ∙ not-true _ (c .if2 .taken))
+    change-broken (a .edge .changes) (a .edge .low) (a .edge .offset) (a .t)
+    (sym (c .before .under-limits .ensures) ∙ not-true _ (c .if2 .taken))
 
 add-t5 : tie.Need-add-t5
 add-t5 c = search needs
@@ -26,7 +27,8 @@ add-t6 c = search needs
 
 returns-3 : tie.Need-returns-3
 returns-3 c = let a = c .before .before .before .before .before .before .args in
-    change-good (a .edge .changes) (a .edge .low) (a .edge .offset) (a .t) (omega arith) (sym (c .before .before .before .under-limits .ensures) ∙ not-false _ (c .before .before .if2 .left))
+    change-good (a .edge .changes) (a .edge .low) (a .edge .offset) (a .t) (omega arith)
+    (sym (c .before .before .before .under-limits .ensures) ∙ not-false _ (c .before .before .if2 .left))
 
 pub change-spec : {M : Type 1} → statement M
 change-spec =

@@ -21,7 +21,8 @@ previous-bit-requires-2 c κs = search needs
 returns-2 : tie.Need-returns-2
 returns-2 c =
     let a = c .before .before .before .before .args in
-    no-minute-before (a .hours) (a .minutes) (a .hour) (c .before .before .before .before .pre) (sym (c .before .previous-bit2 .ensures) ∙ c .if2 .taken)
+    no-minute-before (a .hours) (a .minutes) (a .hour) (c .before .before .before .before .pre)
+    (sym (c .before .previous-bit2 .ensures) ∙ c .if2 .taken)
 
 sub-result : tie.Need-sub-result
 sub-result c = search needs

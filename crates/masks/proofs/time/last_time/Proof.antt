@@ -36,7 +36,8 @@ returns-2 c =
     let a = c .before .before .before .before .before .args in
     let b : bit (a .hours) (a .t / 60) ≡ true =
     sym (c .before .before .before .test .ensures) ∙ c .before .before .if2 .taken in
-    rw (c .before .previous-bit .ensures) (this-hour-last (a .hours) (a .minutes) (a .t) (omega arith) b (omega (arith, c .before .previous-bit .ensures)))
+    rw (c .before .previous-bit .ensures)
+    (this-hour-last (a .hours) (a .minutes) (a .t) (omega arith) b (omega (arith, c .before .previous-bit .ensures)))
 
 before-hour-requires-2 : tie.Need-before-hour-requires-2
 before-hour-requires-2 c κs = search needs

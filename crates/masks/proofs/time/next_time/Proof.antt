@@ -30,7 +30,8 @@ returns-2 c =
     let a = c .before .before .before .before .before .args in
     let b : bit (a .hours) (a .t / 60) ≡ true =
     sym (c .before .before .before .test .ensures) ∙ c .before .before .if2 .taken in
-    rw (c .before .next-bit .ensures) (this-hour-time (a .hours) (a .minutes) (a .t) (omega arith) b (omega (arith, c .before .next-bit .ensures)))
+    rw (c .before .next-bit .ensures)
+    (this-hour-time (a .hours) (a .minutes) (a .t) (omega arith) b (omega (arith, c .before .next-bit .ensures)))
 
 add-from-hour : tie.Need-add-from-hour
 add-from-hour c = search needs

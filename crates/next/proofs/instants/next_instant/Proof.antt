@@ -30,7 +30,8 @@ stretch c =
     let t = c .before .before .before in
     let s = t .before .before .before in
     let v = t .loop in
-    let l = from-there (s .args .t3) (s .good .1 .1 .0) (v .k) (v .k + 1) (v .offset) refl (omega (arith, t .before .fewer .ensures)) (v .inv .2) in
+    let l =
+    from-there (s .args .t3) (s .good .1 .1 .0) (v .k) (v .k + 1) (v .offset) refl (omega (arith, t .before .fewer .ensures)) (v .inv .2) in
     record { by = v .inv .2; first = v .inv .1; past = c .end-before .ensures ∙ l }
 
 lesser-requires : tie.Need-lesser-requires Inv-loop μ-loop

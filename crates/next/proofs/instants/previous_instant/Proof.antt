@@ -49,7 +49,8 @@ stretch c =
     let v = t .loop in
     record {
       by = offset-from w (s .good .1 .1 .0) (v .k - 1) (v .k) (omega arith) (omega arith);
-      first = c .end-before .ensures ∙ from-there w (s .good .1 .1 .0) (v .k - 1) (v .k) (c .before .if1 .earlier) (omega arith) (omega arith) (before-it (c .before));
+      first = c .end-before .ensures
+          ∙ from-there w (s .good .1 .1 .0) (v .k - 1) (v .k) (c .before .if1 .earlier) (omega arith) (omega arith) (before-it (c .before));
       past = v .inv .1;
     }
 
@@ -140,7 +141,8 @@ returns c =
     let z = offsetsOf w in
     let v = t .loop in
     let e : v .k + 1 ≡ 0 + 1 = omega arith in
-    let h : Stretch z 0 (w .first) 0 (v .end) = record { by = first-offset w (s .good .1 .1 .0); first = sym (stretch-first z); past = v .inv .1 ∙ ap (stretchFrom z) e } in
+    let h : Stretch z 0 (w .first) 0 (v .end) =
+    record { by = first-offset w (s .good .1 .1 .0); first = sym (stretch-first z); past = v .inv .1 ∙ ap (stretchFrom z) e } in
     previous-whole _ z (s .pre) (s .args .asked) (t .before .before .lesser .result) _ (omega (arith, t .before .before .lesser .ensures))
     (stretch-before _ z (s .pre) 0 _ _ _ h After after-through (λ j. j < t .before .before .lesser .result) _ _ _ (c .stretch-previous2 .ensures) 52596000 (omega (arith, v .inv .1, stretch-within z (v .k + 1))) (v .inv .2))
 

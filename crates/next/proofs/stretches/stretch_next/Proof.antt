@@ -15,7 +15,8 @@ least : (c : tie.After-list-least)
 least c =
     let s = c .before .before in
     let a = s .before .before .args in
-    list-least-is (firstOf (a .count) (a .fs .now)) (s .before .first-after .result) (s .end-at .result) (c .list-least .result) (omega arith) (omega arith) (c .list-least .ensures)
+    list-least-is (firstOf (a .count) (a .fs .now)) (s .before .first-after .result) (s .end-at .result) (c .list-least .result)
+    (omega arith) (omega arith) (c .list-least .ensures)
 
 first-after-requires : tie.Need-first-after-requires
 first-after-requires c κs = search needs
@@ -24,7 +25,8 @@ end-at-requires : tie.Need-end-at-requires
 end-at-requires c κs = search needs
 
 returns : tie.Need-returns
-returns c = none-earliest _ _ _ _ _ _ (c .before .before .first-after .result) (c .before .end-at .result) (omega arith) (omega arith) (λ m f t. absurd (omega arith))
+returns c =
+    none-earliest _ _ _ _ _ _ (c .before .before .first-after .result) (c .before .end-at .result) (omega arith) (omega arith) (λ m f t. absurd (omega arith))
 
 list-least-requires : tie.Need-list-least-requires
 list-least-requires c κs = search needs

@@ -15,7 +15,8 @@ last : (c : tie.After-list-last)
 last c =
     let s = c .before .before in
     let a = s .before .before .args in
-    list-last-is (firstOf (a .count) (a .fs .now)) (s .before .first-after .result) (s .end-at .result) (c .list-last .result) (omega arith) (omega arith) (c .list-last .ensures)
+    list-last-is (firstOf (a .count) (a .fs .now)) (s .before .first-after .result) (s .end-at .result) (c .list-last .result) (omega arith)
+    (omega arith) (c .list-last .ensures)
 
 first-after-requires : tie.Need-first-after-requires
 first-after-requires c κs = search needs
@@ -24,7 +25,8 @@ end-at-requires : tie.Need-end-at-requires
 end-at-requires c κs = search needs
 
 returns : tie.Need-returns
-returns c = none-latest _ _ _ _ _ _ (c .before .before .first-after .result) (c .before .end-at .result) (omega arith) (omega arith) (λ m f t. absurd (omega arith))
+returns c =
+    none-latest _ _ _ _ _ _ (c .before .before .first-after .result) (c .before .end-at .result) (omega arith) (omega arith) (λ m f t. absurd (omega arith))
 
 list-last-requires : tie.Need-list-last-requires
 list-last-requires c κs = search needs

@@ -39,7 +39,10 @@ enum-told c = search needs
 
 returns : tie.Need-returns Inv-loop μ-loop
 returns c = let a = c .before .before .before .before .before .before .args in
-    loop-not (partRead (now (a .s))) 59 (now (a .s)) (omega arith) (λ at x e. part-after (now (a .s)) at x e) takePart partsIs Given.Not (c .before .before .before .loop .m) (c .before .before .before .loop .at) (part-is-not (partRead (now (a .s)) (c .before .before .before .loop .at)) (sym (c .enum-told .given .1) ∙ c .before .before .part-at .ensures)) ∙ c .before .before .before .loop .inv
+    loop-not (partRead (now (a .s))) 59 (now (a .s)) (omega arith) (λ at x e. part-after (now (a .s)) at x e) takePart partsIs Given.Not
+    (c .before .before .before .loop .m) (c .before .before .before .loop .at)
+    (part-is-not (partRead (now (a .s)) (c .before .before .before .loop .at)) (sym (c .enum-told .given .1) ∙ c .before .before .part-at .ensures))
+    ∙ c .before .before .before .loop .inv
 
 take-requires : tie.Need-take-requires Inv-loop μ-loop
 take-requires c κs = search needs
@@ -49,23 +52,36 @@ byte-requires c κs = search needs
 
 returns-2 : tie.Need-returns-2 Inv-loop μ-loop
 returns-2 c = let a = c .before .before .before .before .before .before .before .before .before .before .args in
-    let r = part-is (partRead (now (a .s)) (c .before .before .before .before .before .before .before .loop .at)) _ _ (sym (c .before .before .before .before .x .given .1) ∙ c .before .before .before .before .before .before .part-at .ensures) in
-    rw (c .before .before .take .ensures ∙ ap (taken (c .before .before .before .before .before .before .before .loop .m)) (r .same)) (loop-last (partRead (now (a .s))) 59 (now (a .s)) (omega arith) (λ at x e. part-after (now (a .s)) at x e) takePart partsIs Given.Not (c .before .before .before .before .before .before .before .loop .m) (c .before .before .before .before .before .before .before .loop .at) _ _ (r .read) (λ q. c .if1 .taken (c .before .byte .ensures ∙ q)) ∙ c .before .before .before .before .before .before .before .loop .inv)
+    let r =
+    part-is (partRead (now (a .s)) (c .before .before .before .before .before .before .before .loop .at)) _ _ (sym (c .before .before .before .before .x .given .1) ∙ c .before .before .before .before .before .before .part-at .ensures) in
+    rw (c .before .before .take .ensures ∙ ap (taken (c .before .before .before .before .before .before .before .loop .m)) (r .same))
+    (loop-last (partRead (now (a .s))) 59 (now (a .s)) (omega arith) (λ at x e. part-after (now (a .s)) at x e) takePart partsIs Given.Not (c .before .before .before .before .before .before .before .loop .m) (c .before .before .before .before .before .before .before .loop .at) _ _ (r .read) (λ q. c .if1 .taken (c .before .byte .ensures ∙ q)) ∙ c .before .before .before .before .before .before .before .loop .inv)
 
 add-at : tie.Need-add-at Inv-loop μ-loop
 add-at c = let a = c .before .before .before .before .before .before .before .before .before .before .before .args in
-    let r = part-is (partRead (now (a .s)) (c .before .before .before .before .before .before .before .before .loop .at)) _ _ (sym (c .before .before .before .before .before .x .given .1) ∙ c .before .before .before .before .before .before .before .part-at .ensures) in
-    omega (arith, loop-on (partRead (now (a .s))) 59 (now (a .s)) (omega arith) (λ at x e. part-after (now (a .s)) at x e) takePart partsIs Given.Not (c .before .before .before .before .before .before .before .before .loop .m) (c .before .before .before .before .before .before .before .before .loop .at) _ _ (r .read) (sym (c .before .before .byte .ensures) ∙ c .before .if1 .left))
+    let r =
+    part-is (partRead (now (a .s)) (c .before .before .before .before .before .before .before .before .loop .at)) _ _ (sym (c .before .before .before .before .before .x .given .1) ∙ c .before .before .before .before .before .before .before .part-at .ensures) in
+    omega (
+      arith,
+      loop-on (partRead (now (a .s))) 59 (now (a .s)) (omega arith) (λ at x e. part-after (now (a .s)) at x e) takePart partsIs Given.Not (c .before .before .before .before .before .before .before .before .loop .m) (c .before .before .before .before .before .before .before .before .loop .at) _ _ (r .read) (sym (c .before .before .byte .ensures) ∙ c .before .if1 .left),
+    )
 
 loop-less : tie.Need-loop-less Inv-loop μ-loop
 loop-less c = let a = c .before .before .before .before .before .before .before .before .before .before .before .args in
-    let r = part-is (partRead (now (a .s)) (c .before .before .before .before .before .before .before .before .loop .at)) _ _ (sym (c .before .before .before .before .before .x .given .1) ∙ c .before .before .before .before .before .before .before .part-at .ensures) in
-    omega (arith, loop-on (partRead (now (a .s))) 59 (now (a .s)) (omega arith) (λ at x e. part-after (now (a .s)) at x e) takePart partsIs Given.Not (c .before .before .before .before .before .before .before .before .loop .m) (c .before .before .before .before .before .before .before .before .loop .at) _ _ (r .read) (sym (c .before .before .byte .ensures) ∙ c .before .if1 .left))
+    let r =
+    part-is (partRead (now (a .s)) (c .before .before .before .before .before .before .before .before .loop .at)) _ _ (sym (c .before .before .before .before .before .x .given .1) ∙ c .before .before .before .before .before .before .before .part-at .ensures) in
+    omega (
+      arith,
+      loop-on (partRead (now (a .s))) 59 (now (a .s)) (omega arith) (λ at x e. part-after (now (a .s)) at x e) takePart partsIs Given.Not (c .before .before .before .before .before .before .before .before .loop .m) (c .before .before .before .before .before .before .before .before .loop .at) _ _ (r .read) (sym (c .before .before .byte .ensures) ∙ c .before .if1 .left),
+    )
 
 loop-again : tie.Need-loop-again Inv-loop μ-loop
 loop-again c = let a = c .before .before .before .before .before .before .before .before .before .before .before .args in
-    let r = part-is (partRead (now (a .s)) (c .before .before .before .before .before .before .before .before .loop .at)) _ _ (sym (c .before .before .before .before .before .x .given .1) ∙ c .before .before .before .before .before .before .before .part-at .ensures) in
-    rw (c .before .before .before .take .ensures ∙ ap (taken (c .before .before .before .before .before .before .before .before .loop .m)) (r .same)) (loop-next (partRead (now (a .s))) 59 (now (a .s)) (omega arith) (λ at x e. part-after (now (a .s)) at x e) takePart partsIs Given.Not (c .before .before .before .before .before .before .before .before .loop .m) (c .before .before .before .before .before .before .before .before .loop .at) _ _ (r .read) (sym (c .before .before .byte .ensures) ∙ c .before .if1 .left) ∙ c .before .before .before .before .before .before .before .before .loop .inv)
+    let r =
+    part-is (partRead (now (a .s)) (c .before .before .before .before .before .before .before .before .loop .at)) _ _ (sym (c .before .before .before .before .before .x .given .1) ∙ c .before .before .before .before .before .before .before .part-at .ensures) in
+    rw
+    (c .before .before .before .take .ensures ∙ ap (taken (c .before .before .before .before .before .before .before .before .loop .m)) (r .same))
+    (loop-next (partRead (now (a .s))) 59 (now (a .s)) (omega arith) (λ at x e. part-after (now (a .s)) at x e) takePart partsIs Given.Not (c .before .before .before .before .before .before .before .before .loop .m) (c .before .before .before .before .before .before .before .before .loop .at) _ _ (r .read) (sym (c .before .before .byte .ensures) ∙ c .before .if1 .left) ∙ c .before .before .before .before .before .before .before .before .loop .inv)
 
 pub parts-at-spec : {M : Type 1} → statement M
 parts-at-spec =

@@ -23,7 +23,10 @@ test-requires c κs = search needs
 returns : tie.Need-returns
 unfolding taken
 returns c = let a = c .before .before .before .before .before .args in
-    let e : bit (a .m .names) (nameIn (a .x)) ≡ true = ap (λ (k : ℕ). bit (a .m .names) k) (sym (c .before .before .before .before .name-in .ensures)) ∙ sym (c .before .test .ensures) ∙ c .if1 .taken in
+    let e : bit (a .m .names) (nameIn (a .x)) ≡ true =
+    ap (λ (k : ℕ). bit (a .m .names) k) (sym (c .before .before .before .before .name-in .ensures))
+    ∙ sym (c .before .test .ensures)
+    ∙ c .if1 .taken in
     rw (e, c .before .before .both .ensures, c .before .before .before .good-in .ensures) refl
 
 with-bit-requires : tie.Need-with-bit-requires
@@ -35,8 +38,18 @@ with-value-requires c κs = search needs
 returns-2 : tie.Need-returns-2
 unfolding taken
 returns-2 c = let a = c .before .before .before .before .before .before .before .args in
-    let e : bit (a .m .names) (nameIn (a .x)) ≡ false = ap (λ (k : ℕ). bit (a .m .names) k) (sym (c .before .before .before .before .before .before .name-in .ensures)) ∙ sym (c .before .before .before .test .ensures) ∙ c .before .before .if1 .left in
-    rw (e, c .with-value .ensures, c .before .with-bit .ensures, c .before .before .before .before .both .ensures, c .before .before .before .before .before .good-in .ensures, c .before .before .before .before .before .before .name-in .ensures) refl
+    let e : bit (a .m .names) (nameIn (a .x)) ≡ false =
+    ap (λ (k : ℕ). bit (a .m .names) k) (sym (c .before .before .before .before .before .before .name-in .ensures))
+    ∙ sym (c .before .before .before .test .ensures)
+    ∙ c .before .before .if1 .left in
+    rw (
+      e,
+      c .with-value .ensures,
+      c .before .with-bit .ensures,
+      c .before .before .before .before .both .ensures,
+      c .before .before .before .before .before .good-in .ensures,
+      c .before .before .before .before .before .before .name-in .ensures,
+    ) refl
 
 pub take-spec : {M : Type 1} → statement M
 take-spec =

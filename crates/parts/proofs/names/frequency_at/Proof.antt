@@ -25,7 +25,9 @@ or-word-requires-3 c κs = search needs
 
 returns : tie.Need-returns
 unfolding orWords frequencyWords
-returns c = rw (c .or-word3 .ensures, c .before .before .or-word2 .ensures, c .before .before .before .before .or-word .ensures) (or-words _ _ frequencyWords)
+returns c =
+    rw (c .or-word3 .ensures, c .before .before .or-word2 .ensures, c .before .before .before .before .or-word .ensures)
+    (or-words _ _ frequencyWords)
 
 pub frequency-at-spec : {M : Type 1} → statement M
 frequency-at-spec =

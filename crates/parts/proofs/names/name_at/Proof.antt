@@ -49,7 +49,16 @@ or-word-requires-7 c κs = search needs
 
 returns : tie.Need-returns
 unfolding orWords partHeads
-returns c = rw (c .or-word7 .ensures, c .before .before .or-word6 .ensures, c .before .before .before .before .or-word5 .ensures, c .before .before .before .before .before .before .or-word4 .ensures, c .before .before .before .before .before .before .before .before .or-word3 .ensures, c .before .before .before .before .before .before .before .before .before .before .or-word2 .ensures, c .before .before .before .before .before .before .before .before .before .before .before .before .or-word .ensures) (or-words _ _ partHeads)
+returns c =
+    rw (
+      c .or-word7 .ensures,
+      c .before .before .or-word6 .ensures,
+      c .before .before .before .before .or-word5 .ensures,
+      c .before .before .before .before .before .before .or-word4 .ensures,
+      c .before .before .before .before .before .before .before .before .or-word3 .ensures,
+      c .before .before .before .before .before .before .before .before .before .before .or-word2 .ensures,
+      c .before .before .before .before .before .before .before .before .before .before .before .before .or-word .ensures,
+    ) (or-words _ _ partHeads)
 
 pub name-at-spec : {M : Type 1} → statement M
 name-at-spec =

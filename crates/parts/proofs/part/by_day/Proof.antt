@@ -25,7 +25,8 @@ returns c = let a = c .before .before .before .before .args in
 returns-2 : tie.Need-returns-2
 unfolding valueRead daysParted
 returns-2 c = let a = c .before .before .before .before .before .args in
-    ap daysParted (sym (c .before .days .given .1) ∙ c .before .before .before .days-at .ensures) ∙ days-parted (daysRead (now (a .s)) (a .c .at))
+    ap daysParted (sym (c .before .days .given .1) ∙ c .before .before .before .days-at .ensures)
+    ∙ days-parted (daysRead (now (a .s)) (a .c .at))
 
 pub by-day-spec : {M : Type 1} → statement M
 by-day-spec = tie.close (tie.spec days-at-requires enum-known-days enum-told returns returns-2)

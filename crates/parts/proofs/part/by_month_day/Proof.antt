@@ -20,12 +20,14 @@ enum-told c = search needs
 returns : tie.Need-returns
 unfolding valueRead daysNumbered
 returns c = let a = c .before .before .before .before .args in
-    ap daysNumbered (sym (c .enum-told .given .1) ∙ c .before .before .numbers-at .ensures) ∙ month-days-parted (numbersRead (now (a .s)) (a .c .at))
+    ap daysNumbered (sym (c .enum-told .given .1) ∙ c .before .before .numbers-at .ensures)
+    ∙ month-days-parted (numbersRead (now (a .s)) (a .c .at))
 
 returns-2 : tie.Need-returns-2
 unfolding valueRead daysNumbered
 returns-2 c = let a = c .before .before .before .before .before .args in
-    ap daysNumbered (sym (c .before .days .given .1) ∙ c .before .before .before .numbers-at .ensures) ∙ month-days-parted (numbersRead (now (a .s)) (a .c .at))
+    ap daysNumbered (sym (c .before .days .given .1) ∙ c .before .before .before .numbers-at .ensures)
+    ∙ month-days-parted (numbersRead (now (a .s)) (a .c .at))
 
 pub by-month-day-spec : {M : Type 1} → statement M
 by-month-day-spec =

@@ -20,12 +20,14 @@ enum-told c = search needs
 returns : tie.Need-returns
 unfolding valueRead positionsNumbered
 returns c = let a = c .before .before .before .before .args in
-    ap positionsNumbered (sym (c .enum-told .given .1) ∙ c .before .before .numbers-at .ensures) ∙ positions-parted (numbersRead (now (a .s)) (a .c .at))
+    ap positionsNumbered (sym (c .enum-told .given .1) ∙ c .before .before .numbers-at .ensures)
+    ∙ positions-parted (numbersRead (now (a .s)) (a .c .at))
 
 returns-2 : tie.Need-returns-2
 unfolding valueRead positionsNumbered
 returns-2 c = let a = c .before .before .before .before .before .args in
-    ap positionsNumbered (sym (c .before .positions .given .1) ∙ c .before .before .before .numbers-at .ensures) ∙ positions-parted (numbersRead (now (a .s)) (a .c .at))
+    ap positionsNumbered (sym (c .before .positions .given .1) ∙ c .before .before .before .numbers-at .ensures)
+    ∙ positions-parted (numbersRead (now (a .s)) (a .c .at))
 
 pub by-set-pos-spec : {M : Type 1} → statement M
 by-set-pos-spec =

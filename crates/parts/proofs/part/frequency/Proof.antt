@@ -31,7 +31,8 @@ enum-told c = search needs
 returns : tie.Need-returns
 unfolding valueRead
 returns c = let a = c .before .before .before .before .args in
-    rw (named-not (oneAt frequencyWords (now (a .s)) (a .c .at)) (sym (c .enum-told .given .1) ∙ c .before .before .frequency-at .ensures)) refl
+    rw (named-not (oneAt frequencyWords (now (a .s)) (a .c .at)) (sym (c .enum-told .given .1) ∙ c .before .before .frequency-at .ensures))
+    refl
 
 add-t6 : tie.Need-add-t6
 unfolding frequencyWords

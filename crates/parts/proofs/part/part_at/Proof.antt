@@ -23,7 +23,9 @@ enum-told c = search needs
 
 returns : tie.Need-returns
 returns c = let a = c .before .before .before .before .args in
-    rw (part-not (now (a .s)) (a .c .at) (named-not (oneAt partHeads (now (a .s)) (a .c .at)) (sym (c .enum-told .given .1) ∙ c .before .before .name-at .ensures))) refl
+    rw
+    (part-not (now (a .s)) (a .c .at) (named-not (oneAt partHeads (now (a .s)) (a .c .at)) (sym (c .enum-told .given .1) ∙ c .before .before .name-at .ensures)))
+    refl
 
 frequency-requires : tie.Need-frequency-requires
 frequency-requires c κs = search needs
@@ -48,40 +50,56 @@ by-set-pos-requires c κs = search needs
 
 returns-2 : tie.Need-returns-2
 returns-2 c = let a = c .before .before .before .before .before .before .before .args in
-    let w = named-is (oneAt partHeads (now (a .s)) (a .c .at)) _ _ (sym (c .before .before .before .name .given .1) ∙ c .before .before .before .before .before .name-at .ensures) in
+    let w =
+    named-is (oneAt partHeads (now (a .s)) (a .c .at)) _ _ (sym (c .before .before .before .name .given .1) ∙ c .before .before .before .before .before .name-at .ensures) in
     rw (part-value (now (a .s)) (a .c .at) _ _ w, c .before .match2 .keys1) (c .frequency .ensures)
 
 returns-3 : tie.Need-returns-3
 returns-3 c = let a = c .before .before .before .before .before .before .before .args in
-    let w = named-is (oneAt partHeads (now (a .s)) (a .c .at)) _ _ (sym (c .before .before .before .name .given .1) ∙ c .before .before .before .before .before .name-at .ensures) in
+    let w =
+    named-is (oneAt partHeads (now (a .s)) (a .c .at)) _ _ (sym (c .before .before .before .name .given .1) ∙ c .before .before .before .before .before .name-at .ensures) in
     rw (part-value (now (a .s)) (a .c .at) _ _ w, c .before .match2 .keys2) (c .interval .ensures)
 
 returns-4 : tie.Need-returns-4
 returns-4 c = let a = c .before .before .before .before .before .before .before .args in
-    let w = named-is (oneAt partHeads (now (a .s)) (a .c .at)) _ _ (sym (c .before .before .before .name .given .1) ∙ c .before .before .before .before .before .name-at .ensures) in
+    let w =
+    named-is (oneAt partHeads (now (a .s)) (a .c .at)) _ _ (sym (c .before .before .before .name .given .1) ∙ c .before .before .before .before .before .name-at .ensures) in
     rw (part-value (now (a .s)) (a .c .at) _ _ w, c .before .match2 .keys3) (c .count .ensures)
 
 returns-5 : tie.Need-returns-5
 returns-5 c = let a = c .before .before .before .before .before .before .before .args in
-    let w = named-is (oneAt partHeads (now (a .s)) (a .c .at)) _ _ (sym (c .before .before .before .name .given .1) ∙ c .before .before .before .before .before .name-at .ensures) in
+    let w =
+    named-is (oneAt partHeads (now (a .s)) (a .c .at)) _ _ (sym (c .before .before .before .name .given .1) ∙ c .before .before .before .before .before .name-at .ensures) in
     rw (part-value (now (a .s)) (a .c .at) _ _ w, c .before .match2 .keys4) (c .until .ensures)
 
 returns-6 : tie.Need-returns-6
 returns-6 c = let a = c .before .before .before .before .before .before .before .args in
-    let w = named-is (oneAt partHeads (now (a .s)) (a .c .at)) _ _ (sym (c .before .before .before .name .given .1) ∙ c .before .before .before .before .before .name-at .ensures) in
+    let w =
+    named-is (oneAt partHeads (now (a .s)) (a .c .at)) _ _ (sym (c .before .before .before .name .given .1) ∙ c .before .before .before .before .before .name-at .ensures) in
     rw (part-value (now (a .s)) (a .c .at) _ _ w, c .before .match2 .keys5) (c .by-day .ensures)
 
 returns-7 : tie.Need-returns-7
 returns-7 c = let a = c .before .before .before .before .before .before .before .args in
-    let w = named-is (oneAt partHeads (now (a .s)) (a .c .at)) _ _ (sym (c .before .before .before .name .given .1) ∙ c .before .before .before .before .before .name-at .ensures) in
+    let w =
+    named-is (oneAt partHeads (now (a .s)) (a .c .at)) _ _ (sym (c .before .before .before .name .given .1) ∙ c .before .before .before .before .before .name-at .ensures) in
     rw (part-value (now (a .s)) (a .c .at) _ _ w, c .before .match2 .keys6) (c .by-month-day .ensures)
 
 returns-8 : tie.Need-returns-8
 unfolding partHeads
 returns-8 c = let a = c .before .before .before .before .before .before .before .args in
-    let w = named-is (oneAt partHeads (now (a .s)) (a .c .at)) _ _ (sym (c .before .before .before .name .given .1) ∙ c .before .before .before .before .before .name-at .ensures) in
+    let w =
+    named-is (oneAt partHeads (now (a .s)) (a .c .at)) _ _ (sym (c .before .before .before .name .given .1) ∙ c .before .before .before .before .before .name-at .ensures) in
     let l : c .before .before .before .name .given .0 .0 < 7 = one-below partHeads (now (a .s)) (a .c .at) _ _ w in
-    let q : c .before .before .before .name .given .0 .0 ≡ 6 = omega (arith, c .before .match2 .rest .1, c .before .match2 .rest .0 .1, c .before .match2 .rest .0 .0 .1, c .before .match2 .rest .0 .0 .0 .1, c .before .match2 .rest .0 .0 .0 .0 .1, c .before .match2 .rest .0 .0 .0 .0 .0 .1) in
+    let q : c .before .before .before .name .given .0 .0 ≡ 6 =
+    omega (
+      arith,
+      c .before .match2 .rest .1,
+      c .before .match2 .rest .0 .1,
+      c .before .match2 .rest .0 .0 .1,
+      c .before .match2 .rest .0 .0 .0 .1,
+      c .before .match2 .rest .0 .0 .0 .0 .1,
+      c .before .match2 .rest .0 .0 .0 .0 .0 .1,
+    ) in
     rw (part-value (now (a .s)) (a .c .at) _ _ w, q) (c .by-set-pos .ensures)
 
 pub part-at-spec : {M : Type 1} → statement M

@@ -30,12 +30,21 @@ enum-told-2 c = search needs
 
 returns-2 : tie.Need-returns-2
 unfolding valueRead partAs
-returns-2 c = rw (sym (c .before .before .before .before .before .before .time .ensures) ∙ c .before .before .before .before .time2 .given .1, time-outside _ (sym (c .enum-told2 .given .1) ∙ c .before .before .local-minute .ensures)) refl
+returns-2 c =
+    rw (
+      sym (c .before .before .before .before .before .before .time .ensures) ∙ c .before .before .before .before .time2 .given .1,
+      time-outside _ (sym (c .enum-told2 .given .1) ∙ c .before .before .local-minute .ensures),
+    ) refl
 
 returns-3 : tie.Need-returns-3
 unfolding valueRead partAs
 returns-3 c = let m = time-told _ _ (sym (c .before .minute .given .1) ∙ c .before .before .before .local-minute .ensures) in
-    rw (sym (c .before .before .before .before .before .before .before .time .ensures) ∙ c .before .before .before .before .before .time2 .given .1, m .0, m .1) refl
+    rw (
+      sym (c .before .before .before .before .before .before .before .time .ensures)
+          ∙ c .before .before .before .before .before .time2 .given .1,
+      m .0,
+      m .1,
+    ) refl
 
 pub until-spec : {M : Type 1} → statement M
 until-spec =

@@ -59,7 +59,16 @@ returns-6 c = rw (c .before .match .keys6) refl
 
 returns-7 : tie.Need-returns-7
 unfolding frameIn
-returns-7 c = let n = c .before .match .rest in rw (ne-eqb _ _ (n .0 .0 .0 .0 .0 .1), ne-eqb _ _ (n .0 .0 .0 .0 .1), ne-eqb _ _ (n .0 .0 .0 .1), ne-eqb _ _ (n .0 .0 .1), ne-eqb _ _ (n .0 .1), ne-eqb _ _ (n .1)) refl
+returns-7 c =
+    let n = c .before .match .rest in
+    rw (
+      ne-eqb _ _ (n .0 .0 .0 .0 .0 .1),
+      ne-eqb _ _ (n .0 .0 .0 .0 .1),
+      ne-eqb _ _ (n .0 .0 .0 .1),
+      ne-eqb _ _ (n .0 .0 .1),
+      ne-eqb _ _ (n .0 .1),
+      ne-eqb _ _ (n .1),
+    ) refl
 
 pub frame-in-spec : {M : Type 1} → statement M
 frame-in-spec =

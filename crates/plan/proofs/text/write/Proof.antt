@@ -28,7 +28,8 @@ returns-2 : tie.Need-returns-2
 returns-2 c =
     let a = c .before .before .before .before .args in
     let l = a .buf .now in
-    let h : length l < a .at + length (wholeLine (a .frame)) = omega (arith, whole-length (a .frame), c .before .before .size-of .ensures) in
+    let h : length l < a .at + length (wholeLine (a .frame)) =
+    omega (arith, whole-length (a .frame), c .before .before .size-of .ensures) in
     (rw (lt-leb _ _ h), sym (put-outside l (a .at) (wholeLine (a .frame)) h))
 
 widths-of-requires : tie.Need-widths-of-requires

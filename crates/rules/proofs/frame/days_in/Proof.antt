@@ -25,7 +25,12 @@ returns : tie.Need-returns
 unfolding daysIn
 returns c =
     let a = c .before .before .before .before .before .before .before .before .before .before .args in
-    rw (← c .before .before .before .before .both .ensures, sym (c .before .before .before .both2 .ensures) ∙ c .before .before .if1 .taken, c .before .local-date .ensures, one-shifted (localDate (a .start / 1440) .day) (day-fits (a .start / 1440)))
+    rw (
+      ← c .before .before .before .before .both .ensures,
+      sym (c .before .before .before .both2 .ensures) ∙ c .before .before .if1 .taken,
+      c .before .local-date .ensures,
+      one-shifted (localDate (a .start / 1440) .day) (day-fits (a .start / 1440)),
+    )
 
 returns-2 : tie.Need-returns-2
 unfolding daysIn

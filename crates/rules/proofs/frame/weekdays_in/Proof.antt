@@ -27,7 +27,8 @@ returns : tie.Need-returns
 unfolding weekdaysIn localWeekday
 returns c =
     let a = c .before .before .before .before .before .before .args in
-    rw (sym (c .before .before .both .ensures) ∙ c .before .if1 .taken, c .weekday .ensures) (one-shifted (localWeekday (a .start / 1440)) (omega (arith, weekday-at-most (a .start / 1440))))
+    rw (sym (c .before .before .both .ensures) ∙ c .before .if1 .taken, c .weekday .ensures)
+    (one-shifted (localWeekday (a .start / 1440)) (omega (arith, weekday-at-most (a .start / 1440))))
 
 returns-2 : tie.Need-returns-2
 unfolding weekdaysIn

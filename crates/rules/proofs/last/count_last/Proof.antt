@@ -20,7 +20,8 @@ nth-day-requires c κs = search needs
 returns : tie.Need-returns
 returns c =
     let a = c .before .before .before .before .before .args in
-    let e : c .before .nth-day .result ≡ nthDay (rowOf (Frame.Rule (a .f))) (a .count) (a .f .start / dayMinutes) = c .before .nth-day .ensures ∙ rw (c .before .before .before .before .row-of .ensures) in
+    let e : c .before .nth-day .result ≡ nthDay (rowOf (Frame.Rule (a .f))) (a .count) (a .f .start / dayMinutes) =
+    c .before .nth-day .ensures ∙ rw (c .before .before .before .before .row-of .ensures) in
     rw (count-last-by (a .f) (a .count) (c .before .nth-day .result) e, le-ltb (c .before .nth-day .result) windowDays (c .if1 .taken))
 
 mul-result : tie.Need-mul-result
@@ -32,8 +33,12 @@ add-result c = search needs
 returns-2 : tie.Need-returns-2
 returns-2 c =
     let a = c .before .before .before .before .before .before .args in
-    let e : c .before .before .nth-day .result ≡ nthDay (rowOf (Frame.Rule (a .f))) (a .count) (a .f .start / dayMinutes) = c .before .before .nth-day .ensures ∙ rw (c .before .before .before .before .before .row-of .ensures) in
-    rw (count-last-by (a .f) (a .count) (c .before .before .nth-day .result) e, lt-ltb (c .before .before .nth-day .result) windowDays (c .before .if1 .left))
+    let e : c .before .before .nth-day .result ≡ nthDay (rowOf (Frame.Rule (a .f))) (a .count) (a .f .start / dayMinutes) =
+    c .before .before .nth-day .ensures ∙ rw (c .before .before .before .before .before .row-of .ensures) in
+    rw (
+      count-last-by (a .f) (a .count) (c .before .before .nth-day .result) e,
+      lt-ltb (c .before .before .nth-day .result) windowDays (c .before .if1 .left),
+    )
 
 pub count-last-spec : {M : Type 1} → statement M
 count-last-spec =

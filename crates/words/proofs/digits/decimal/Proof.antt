@@ -19,7 +19,14 @@ abbrev μ-loop : tie.MeasureT-loop
 
 -- a byte less 48
 byte : (c : tie.After-minus Inv-loop μ-loop) → c .minus .result ≤ 207
-byte c = omega (arith, c .minus .ensures, c .before .wide .ensures, c .before .before .shared-slice-known2 .given (c .before .before .before .before .before .before .args .at + c .before .before .before .before .loop .i))
+byte c =
+    omega (
+      arith,
+      c .minus .ensures,
+      c .before .wide .ensures,
+      c .before .before .shared-slice-known2 .given
+          (c .before .before .before .before .before .before .args .at + c .before .before .before .before .loop .i),
+    )
 
 loop-holds : tie.Need-loop-holds Inv-loop μ-loop
 loop-holds c = let a = c .before .args in
@@ -41,7 +48,13 @@ minus-requires : tie.Need-minus-requires Inv-loop μ-loop
 minus-requires c κs = search needs
 
 add-v : tie.Need-add-v Inv-loop μ-loop
-add-v c = omega (arith, top (c .before .before .before .before .loop .i) (c .before .before .before .before .loop .v) (omega arith) (c .before .before .before .before .loop .inv .1 .0), byte c)
+add-v c =
+    omega (
+      arith,
+      top (c .before .before .before .before .loop .i) (c .before .before .before .before .loop .v) (omega arith)
+          (c .before .before .before .before .loop .inv .1 .0),
+      byte c,
+    )
 
 add-i : tie.Need-add-i Inv-loop μ-loop
 add-i c = search needs

@@ -37,7 +37,8 @@ sub-result c = search needs
 returns : tie.Need-returns Inv-loop μ-loop
 returns c = let s = now (c .before .before .before .before .before .before .before .args .s) in
     let i = c .before .before .before .before .before .loop .i in
-    let e : isDigit (getD s i 0) ≡ false = ap isDigit (sym (c .before .before .wide .ensures)) ∙ sym (c .before .lies-within .ensures) ∙ not-true _ (c .if1 .taken) in
+    let e : isDigit (getD s i 0) ≡ false =
+    ap isDigit (sym (c .before .before .wide .ensures)) ∙ sym (c .before .lies-within .ensures) ∙ not-true _ (c .if1 .taken) in
     omega (arith, c .before .before .before .before .before .loop .inv .1, digits-none s i (omega arith) e)
 
 add-i : tie.Need-add-i Inv-loop μ-loop
@@ -49,7 +50,8 @@ loop-less c = search needs
 loop-again : tie.Need-loop-again Inv-loop μ-loop
 loop-again c = let s = now (c .before .before .before .before .before .before .before .args .s) in
     let i = c .before .before .before .before .before .loop .i in
-    let e : isDigit (getD s i 0) ≡ true = ap isDigit (sym (c .before .before .wide .ensures)) ∙ sym (c .before .lies-within .ensures) ∙ not-false _ (c .if1 .left) in
+    let e : isDigit (getD s i 0) ≡ true =
+    ap isDigit (sym (c .before .before .wide .ensures)) ∙ sym (c .before .lies-within .ensures) ∙ not-false _ (c .if1 .left) in
     (search needs, omega (arith, c .before .before .before .before .before .loop .inv .1, digits-one s i (omega arith) e))
 
 sub-result-2 : tie.Need-sub-result-2 Inv-loop μ-loop

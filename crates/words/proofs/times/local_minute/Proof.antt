@@ -35,14 +35,20 @@ enum-told c = search needs
 
 returns-4 : tie.Need-returns-4
 unfolding localMinute
-returns-4 c = sym (date-outside (timeAs (c .before .before .before .before .before .before .before .before .before .args .t)) (sym (c .before .before .before .before .before .before .before .before .lies-within .ensures) ∙ not-false _ (c .before .before .before .before .before .before .before .if1 .left)) (omega arith) (omega arith) (sym (c .enum-told .given .1) ∙ c .before .before .day-of-date .ensures))
+returns-4 c =
+    sym
+    (date-outside (timeAs (c .before .before .before .before .before .before .before .before .before .args .t)) (sym (c .before .before .before .before .before .before .before .before .lies-within .ensures) ∙ not-false _ (c .before .before .before .before .before .before .before .if1 .left)) (omega arith) (omega arith) (sym (c .enum-told .given .1) ∙ c .before .before .day-of-date .ensures))
 
 sub-t6 : tie.Need-sub-t6
-sub-t6 c = let d = date-is (timeAs (c .before .before .before .before .before .before .before .before .before .before .args .t)) (sym (c .before .before .before .before .before .before .before .before .before .lies-within .ensures) ∙ not-false _ (c .before .before .before .before .before .before .before .before .if1 .left)) (omega arith) (omega arith) _ (sym (c .before .day .given .1) ∙ c .before .before .before .day-of-date .ensures) in
+sub-t6 c =
+    let d =
+    date-is (timeAs (c .before .before .before .before .before .before .before .before .before .before .args .t)) (sym (c .before .before .before .before .before .before .before .before .before .lies-within .ensures) ∙ not-false _ (c .before .before .before .before .before .before .before .before .if1 .left)) (omega arith) (omega arith) _ (sym (c .before .day .given .1) ∙ c .before .before .before .day-of-date .ensures) in
     omega (arith, d .1)
 
 mul-t7 : tie.Need-mul-t7
-mul-t7 c = let d = date-is (timeAs (c .before .before .before .before .before .before .before .before .before .before .args .t)) (sym (c .before .before .before .before .before .before .before .before .before .lies-within .ensures) ∙ not-false _ (c .before .before .before .before .before .before .before .before .if1 .left)) (omega arith) (omega arith) _ (sym (c .before .day .given .1) ∙ c .before .before .before .day-of-date .ensures) in
+mul-t7 c =
+    let d =
+    date-is (timeAs (c .before .before .before .before .before .before .before .before .before .before .args .t)) (sym (c .before .before .before .before .before .before .before .before .before .lies-within .ensures) ∙ not-false _ (c .before .before .before .before .before .before .before .before .if1 .left)) (omega arith) (omega arith) _ (sym (c .before .day .given .1) ∙ c .before .before .before .day-of-date .ensures) in
     omega (arith, d .1)
 
 mul-t8 : tie.Need-mul-t8
@@ -52,12 +58,16 @@ add-t9 : tie.Need-add-t9
 add-t9 c = search needs
 
 add-t10 : tie.Need-add-t10
-add-t10 c = let d = date-is (timeAs (c .before .before .before .before .before .before .before .before .before .before .before .before .args .t)) (sym (c .before .before .before .before .before .before .before .before .before .before .before .lies-within .ensures) ∙ not-false _ (c .before .before .before .before .before .before .before .before .before .before .if1 .left)) (omega arith) (omega arith) _ (sym (c .before .before .before .day .given .1) ∙ c .before .before .before .before .before .day-of-date .ensures) in
+add-t10 c =
+    let d =
+    date-is (timeAs (c .before .before .before .before .before .before .before .before .before .before .before .before .args .t)) (sym (c .before .before .before .before .before .before .before .before .before .before .before .lies-within .ensures) ∙ not-false _ (c .before .before .before .before .before .before .before .before .before .before .if1 .left)) (omega arith) (omega arith) _ (sym (c .before .before .before .day .given .1) ∙ c .before .before .before .before .before .day-of-date .ensures) in
     omega (arith, d .1)
 
 returns-5 : tie.Need-returns-5
 unfolding localMinute
-returns-5 c = sym (date-is (timeAs (c .before .before .before .before .before .before .before .before .before .before .before .before .args .t)) (sym (c .before .before .before .before .before .before .before .before .before .before .before .lies-within .ensures) ∙ not-false _ (c .before .before .before .before .before .before .before .before .before .before .if1 .left)) (omega arith) (omega arith) _ (sym (c .before .before .before .day .given .1) ∙ c .before .before .before .before .before .day-of-date .ensures) .0)
+returns-5 c =
+    sym
+    (date-is (timeAs (c .before .before .before .before .before .before .before .before .before .before .before .before .args .t)) (sym (c .before .before .before .before .before .before .before .before .before .before .before .lies-within .ensures) ∙ not-false _ (c .before .before .before .before .before .before .before .before .before .before .if1 .left)) (omega arith) (omega arith) _ (sym (c .before .before .before .day .given .1) ∙ c .before .before .before .before .before .day-of-date .ensures) .0)
 
 pub local-minute-spec : {M : Type 1} → statement M
 local-minute-spec =

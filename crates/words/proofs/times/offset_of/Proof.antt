@@ -28,25 +28,33 @@ lies-within-requires c κs = search needs
 
 returns-3 : tie.Need-returns-3
 unfolding offsetFrom
-returns-3 c = sym (behind (shiftAs (c .before .before .before .before .before .before .before .before .before .args .s)) (omega arith) (c .before .before .if3 .taken) _ (sym (c .before .lies-within .ensures) ∙ not-true _ (c .if4 .taken)))
+returns-3 c =
+    sym
+    (behind (shiftAs (c .before .before .before .before .before .before .before .before .before .args .s)) (omega arith) (c .before .before .if3 .taken) _ (sym (c .before .lies-within .ensures) ∙ not-true _ (c .if4 .taken)))
 
 sub-t7 : tie.Need-sub-t7
 sub-t7 c = search needs
 
 returns-4 : tie.Need-returns-4
 unfolding offsetFrom
-returns-4 c = sym (behind (shiftAs (c .before .before .before .before .before .before .before .before .before .args .s)) (omega arith) (c .before .before .if3 .taken) _ (sym (c .before .lies-within .ensures) ∙ not-false _ (c .if4 .left)))
+returns-4 c =
+    sym
+    (behind (shiftAs (c .before .before .before .before .before .before .before .before .before .args .s)) (omega arith) (c .before .before .if3 .taken) _ (sym (c .before .lies-within .ensures) ∙ not-false _ (c .if4 .left)))
 
 returns-5 : tie.Need-returns-5
 unfolding offsetFrom
-returns-5 c = sym (ahead-outside (shiftAs (c .before .before .before .before .before .before .before .before .args .s)) (omega arith) (c .before .if3 .left) (omega arith))
+returns-5 c =
+    sym
+    (ahead-outside (shiftAs (c .before .before .before .before .before .before .before .before .args .s)) (omega arith) (c .before .if3 .left) (omega arith))
 
 add-t4 : tie.Need-add-t4
 add-t4 c = search needs
 
 returns-6 : tie.Need-returns-6
 unfolding offsetFrom
-returns-6 c = sym (ahead (shiftAs (c .before .before .before .before .before .before .before .before .args .s)) (omega arith) (c .before .if3 .left) (omega arith))
+returns-6 c =
+    sym
+    (ahead (shiftAs (c .before .before .before .before .before .before .before .before .args .s)) (omega arith) (c .before .if3 .left) (omega arith))
 
 pub offset-of-spec : {M : Type 1} → statement M
 offset-of-spec =

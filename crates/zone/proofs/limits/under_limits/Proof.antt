@@ -19,7 +19,8 @@ lies-within-requires c κs = search needs
 
 returns-2 : tie.Need-returns-2
 unfolding underLimits
-returns-2 c = simp (le-leb _ _ (c .before .before .if1 .left)) (c .lies-within .ensures ∙ ap (within 1 mostChange) (c .before .apart .ensures))
+returns-2 c =
+    simp (le-leb _ _ (c .before .before .if1 .left)) (c .lies-within .ensures ∙ ap (within 1 mostChange) (c .before .apart .ensures))
 
 pub under-limits-spec : {M : Type 1} → statement M
 under-limits-spec = tie.close (tie.spec returns apart-requires lies-within-requires returns-2)

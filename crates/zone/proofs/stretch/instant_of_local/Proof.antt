@@ -25,8 +25,10 @@ module _ (z : Offsets) (m : ℕ) where
 
 -- the offset that was read is that of the minute's stretch
 offset-is : (c : tie.After-stretch-offset)
-    → let s = c .before .before .before in c .stretch-offset .result ≡ stretchOffset (offsetsOf (s .args .zone)) (stretchOf (offsetsOf (s .args .zone)) (s .args .m))
-offset-is c = c .stretch-offset .ensures ∙ ap (stretchOffset (offsetsOf (c .before .before .before .args .zone))) (c .before .stretch-of .ensures)
+    → let s =
+    c .before .before .before in c .stretch-offset .result ≡ stretchOffset (offsetsOf (s .args .zone)) (stretchOf (offsetsOf (s .args .zone)) (s .args .m))
+offset-is c =
+    c .stretch-offset .ensures ∙ ap (stretchOffset (offsetsOf (c .before .before .before .args .zone))) (c .before .stretch-of .ensures)
 
 returns : tie.Need-returns
 returns c = outside _ _ (c .if1 .taken)

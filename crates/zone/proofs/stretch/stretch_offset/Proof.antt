@@ -15,7 +15,8 @@ fewer-requires-2 c κs = search needs
 returns : tie.Need-returns
 returns c =
     let s = c .before .before .before in
-    sym (held-offset-first (s .args .t1) (s .good .0) (s .args .k) (omega (arith, c .before .fewer2 .ensures, c .before .before .fewer .ensures)))
+    sym
+    (held-offset-first (s .args .t1) (s .good .0) (s .args .k) (omega (arith, c .before .fewer2 .ensures, c .before .before .fewer .ensures)))
 
 sub-change : tie.Need-sub-change
 sub-change c = search needs
@@ -30,7 +31,8 @@ returns-2 : tie.Need-returns-2
 returns-2 c =
     let s = c .before .before .before .before in
     let n = c .before .before .fewer2 in
-    sym (held-offset (s .args .t1) (s .good .0) (s .args .k) (n .result) (omega (arith, n .ensures, c .before .before .before .fewer .ensures)) (c .before .if1 .left))
+    sym
+    (held-offset (s .args .t1) (s .good .0) (s .args .k) (n .result) (omega (arith, n .ensures, c .before .before .before .fewer .ensures)) (c .before .if1 .left))
 
 pub stretch-offset-spec : {M : Type 1} → statement M
 stretch-offset-spec =
