@@ -1,7 +1,7 @@
 //! The words of the command line.
 
 pub const USAGE: &str = "\
-usage: reference compare SUITE [--seed S] [--times N] [--patience SECONDS] -- DRIVER WORDS...
+usage: reference compare SUITE [--seed S] [--times N] [--step N] [--patience SECONDS] -- DRIVER WORDS...
        reference dump WHAT [--seed S] [--times N]
        reference dump meanings [--seed S] [--sheets N] [--plans N]
        reference answer
@@ -9,7 +9,8 @@ usage: reference compare SUITE [--seed S] [--times N] [--patience SECONDS] -- DR
 
   compare  sends the requests of SUITE (dates, zones, frames, lines, plans or sheets; examples, limits_dates, limits_plans
            or limits_sheets, whose answers are written down) to the driver and compares its answers; a driver that sends
-           no further answer for SECONDS (60 where none are given) is killed and has failed.
+           no further answer for SECONDS (60 where none are given) is killed and has failed. With a step only every N-th
+           request is sent, counted from one that the seed picks.
            Of the suite `program` the driver is the commissioning program, which is started for each sheet
   dump     prints WHAT (dates, rules, cron or zones) for the programs in peers/, or sheets and plans with
            their answers for tools/try-meanings
@@ -36,10 +37,11 @@ pub enum Command {
     Compile,
 }
 
-/// `--times N` makes N times as many random cases; `--sheets N` and `--plans N` so many.
+/// `--times N` makes N times as many random cases; `--step N` asks every N-th request; `--sheets N` and `--plans N` make so many.
 pub struct Options {
     pub seed: u64,
     pub times: u64,
+    pub step: usize,
     pub patience: u64,
     pub sheets: u64,
     pub plans: u64,
@@ -75,6 +77,7 @@ fn read_options(words: &[String]) -> Option<Options> {
     let mut options = Options {
         seed: DEFAULT_SEED,
         times: 1,
+        step: 1,
         patience: DEFAULT_PATIENCE,
         sheets: 200,
         plans: 200,
@@ -87,6 +90,7 @@ fn read_options(words: &[String]) -> Option<Options> {
         match name.as_str() {
             "--seed" => options.seed = value.parse().ok()?,
             "--times" => options.times = value.parse().ok()?,
+            "--step" => options.step = value.parse().ok().filter(|&step| step > 0)?,
             "--patience" => options.patience = value.parse().ok()?,
             "--sheets" => options.sheets = value.parse().ok()?,
             "--plans" => options.plans = value.parse().ok()?,

@@ -36,20 +36,26 @@ fn unknown(what: &str) -> io::Error {
 }
 
 fn compare_suite(suite: &str, options: &Options, driver: &[String]) -> io::Result<ExitCode> {
-    let (seed, times) = (options.seed, options.times);
+    let (seed, times, step) = (options.seed, options.times, options.step);
     let patience = Duration::from_secs(options.patience);
-    println!("suite {suite}, seed {seed}, times {times}");
-    let driven = |requests| compare::compare(driver, patience, requests);
+    println!("suite {suite}, seed {seed}, times {times}, step {step}");
+    let driven = |requests: Box<dyn Iterator<Item = String>>| {
+        compare::compare(driver, patience, asked(requests, options))
+    };
     let tally = match suite {
         "dates" => driven(cases_dates::requests(seed, times)),
         "frames" => driven(cases_frames::requests(seed, times)),
         "lines" => driven(cases_lines::requests(seed, times)),
         "plans" => driven(cases_plans::requests(seed, times)),
-        "program" => program::compare(driver, patience, program::cases::all(seed, times)),
+        "program" => {
+            let cases = program::cases::all(seed, times).into_iter();
+            program::compare(driver, patience, asked(cases, options))
+        }
         "sheets" => driven(cases_sheets::requests(seed, times)),
         "zones" => driven(cases_zones::requests(seed, times)),
         table => {
             let rows = tables::rows(table).ok_or_else(|| unknown(table))?;
+            let rows: Vec<_> = asked(rows.into_iter(), options).collect();
             tables::compare(driver, patience, &rows)
         }
     };
@@ -62,6 +68,12 @@ fn compare_suite(suite: &str, options: &Options, driver: &[String]) -> io::Resul
     } else {
         ExitCode::FAILURE
     })
+}
+
+/// Every one, or with a step a slice, another for another seed.
+fn asked<Case>(all: impl Iterator<Item = Case>, options: &Options) -> impl Iterator<Item = Case> {
+    let first = options.seed % options.step as u64;
+    all.skip(first as usize).step_by(options.step)
 }
 
 fn dump_what(what: &str, options: &Options) -> io::Result<ExitCode> {
