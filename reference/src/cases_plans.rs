@@ -56,6 +56,8 @@ X 20260329T0330
 pub fn requests(seed: u64, times: u64) -> Requests {
     let mut random = Random::new(seed);
     let mut fixed = example_damaged();
+    fixed.extend(refused_at_the_extremes());
+    fixed.extend(exceptions_in_a_gap());
     fixed.extend(lengths_of_a_plan());
     for text in plans_past_16_bits() {
         fixed.extend(about_few(&text, &mut random));
@@ -104,6 +106,35 @@ fn example_damaged() -> Vec<String> {
 
 fn replaced(text: &[u8], place: std::ops::Range<usize>, by: &[u8]) -> Vec<u8> {
     [&text[..place.start], by, &text[place.end..]].concat()
+}
+
+/// "10, then 11" and "10, then 5": a plan that is not taken, asked where there is no instant and no local minute.
+fn refused_at_the_extremes() -> Vec<String> {
+    let mut all = Vec::new();
+    for text in ["", "01003C\n", "01003C\nFF02\n", "01003C\nFF01\n\n"] {
+        let plan = word_of(text.as_bytes());
+        for asked in [i64::MIN, FIRST_MINUTE - 1, LAST_MINUTE + 1, i64::MAX] {
+            all.push(format!("next {plan} {asked} 1"));
+            all.push(format!("previous {plan} {asked} 1"));
+            all.push(format!("local {plan} {asked}"));
+        }
+    }
+    all
+}
+
+/// A minute of the gap and the one that lands on the same instant, of which one is extra and the other excepted: the instant
+/// stays, since X takes a local minute away and not what it becomes.
+fn exceptions_in_a_gap() -> Vec<String> {
+    let mut all = Vec::new();
+    for (extra, excepted) in [("0230", "0330"), ("0330", "0230")] {
+        let text = plan_of(&format!(
+            "Z +0100\nT 20260329T0100 +0200\nD 20260329T{extra}\nX 20260329T{excepted}\n"
+        ));
+        let plan = word_of(text.as_bytes());
+        all.push(format!("next {plan} {} 2", i64::MIN));
+        all.push(format!("previous {plan} {} 2", i64::MAX));
+    }
+    all
 }
 
 /// 0 to 70 frames before the end frame with every number near theirs, 30 to 35 transitions, and lines far longer
