@@ -103,6 +103,10 @@
     "0403000C0081B5C803228D1F022000000000000000000000000000000000000000000000000000\n" /* R 20160229T0600 FREQ=MONTHLY;INTERVAL=12;BYMONTHDAY=29;BYDAY=MO */ \
     "FF04\n"
 
+#define FULL_PLAN YEARS_OF_SUMMER THIRTY_ONE "FF40\n"
+#define LIMITED_PLAN YEARS_OF_SUMMER LIMITEDS LIMITEDS LIMITEDS LIMITEDS LIMITEDS LIMITEDS LIMITED "FF40\n"
+#define PLAN_OF_NO_DAYS YEARS_OF_SUMMER NO_DAYS NO_DAYS NO_DAYS NO_DAYS NO_DAYS NO_DAYS NO_DAY "FF40\n"
+
 enum { PLAN_CASES = 8, CHECK_ALONE = 7 };
 
 /* Next from an instant; 13799520 is 2026-03-28 00:00 UTC. The case CHECK_ALONE is the load check. */
@@ -115,16 +119,14 @@ static const struct plan_case {
     uint64_t most; /* instructions allowed, 0 for no limit */
 } plan_cases[PLAN_CASES] = {
     {"example", EXAMPLE, 13799520, 0, 13799610, 5000},
-    {"full plan, 31 lines under 32 transitions", YEARS_OF_SUMMER THIRTY_ONE "FF40\n", 13799520, 0, 13799610, 250000},
+    {"full plan, 31 lines under 32 transitions", FULL_PLAN, 13799520, 0, 13799610, 250000},
     {"full plan, 31 rules with a position under 32 transitions",
      YEARS_OF_SUMMER WORKDAYS WORKDAYS WORKDAYS WORKDAYS WORKDAYS WORKDAYS WORKDAY "FF40\n", 13799520, 0, 13804210, 250000},
-    {"full plan, 31 rules with every limit under 32 transitions",
-     YEARS_OF_SUMMER LIMITEDS LIMITEDS LIMITEDS LIMITEDS LIMITEDS LIMITEDS LIMITED "FF40\n", 13799520, 0, 13804210, 250000},
+    {"full plan, 31 rules with every limit under 32 transitions", LIMITED_PLAN, 13799520, 0, 13804210, 250000},
     {"0 0 30 2 * under 32 transitions", YEARS_OF_SUMMER NO_DAY "FF22\n", 0, 11, 0, 200000},
-    {"31 times 0 0 30 2 * under 32 transitions",
-     YEARS_OF_SUMMER NO_DAYS NO_DAYS NO_DAYS NO_DAYS NO_DAYS NO_DAYS NO_DAY "FF40\n", 0, 11, 0, 5000000},
+    {"31 times 0 0 30 2 * under 32 transitions", PLAN_OF_NO_DAYS, 0, 11, 0, 5000000},
     {"29 February on a Monday, asked in 2026", RARE, 13799520, 0, 23227500, 60000},
-    {"load check of the full plan", YEARS_OF_SUMMER THIRTY_ONE "FF40\n", 0, 0, 0, 0},
+    {"load check of the full plan", FULL_PLAN, 0, 0, 0, 0},
 };
 
 #endif

@@ -1,0 +1,91 @@
+/* Calls one exported function once, or not at all: the difference of the two counts is what it costs. The functions are those that plans.c
+   and sheets.c do not count, each on the argument that takes it longest of what was tried.
+   calls NUMBER 0|1, or calls alone for the cases' names and limits. Exit status 1 for a wrong answer. */
+#include <stdio.h>
+#include <stdlib.h>
+
+#include "evandrusk.h"
+#include "plans.h"
+
+static const uint8_t limited[] = LIMITED_PLAN, no_days[] = PLAN_OF_NO_DAYS;
+enum { LIMITED_LENGTH = sizeof limited - 1, NO_DAYS_LENGTH = sizeof no_days - 1 }; /* without the string's end */
+
+/* Each answers 1 where the answer is right. The last day is document 01's mark (d). */
+static int day_of_date(void) {
+    evk_day found = evk_day_of_date(9999, 12, 31);
+    return found.number == EVK_TAKEN && found.day == 2932896;
+}
+
+static int date_of_day(void) {
+    evk_date found = evk_date_of_day(2932896);
+    return found.number == EVK_TAKEN && found.year == 9999 && found.month == 12 && found.day == 31;
+}
+
+static int day_of_iso(void) {
+    evk_day found = evk_day_of_iso(9999, 52, 5);
+    return found.number == EVK_TAKEN && found.day == 2932896;
+}
+
+static int iso_of_day(void) {
+    evk_iso found = evk_iso_of_day(2932896);
+    return found.number == EVK_TAKEN && found.year == 9999 && found.week == 52 && found.weekday == 5;
+}
+
+static int check(void) {
+    return evk_check(limited, LIMITED_LENGTH).number == EVK_TAKEN;
+}
+
+/* In 2099 the offset is +0100. */
+static int instant_of_local(void) {
+    evk_found found = evk_instant_of_local(limited, LIMITED_LENGTH, 52595999);
+    return found.number == EVK_TAKEN && found.instant == 52595999 - 60;
+}
+
+static int offset_at(void) {
+    evk_offset found = evk_offset_at(limited, LIMITED_LENGTH, 52595999);
+    return found.number == EVK_TAKEN && found.offset == 60;
+}
+
+/* From 2026-03-31 06:10 UTC, which is held itself: the last workday of February is the 27th, at 07:10 UTC. */
+static int previous(void) {
+    evk_found found = evk_previous(limited, LIMITED_LENGTH, 13804210);
+    return found.number == EVK_TAKEN && found.instant == 13758190;
+}
+
+static int previous_of_none(void) {
+    evk_found found = evk_previous(no_days, NO_DAYS_LENGTH, INT64_MAX);
+    return found.number == EVK_NONE && found.instant == 0;
+}
+
+static const struct {
+    const char *name;
+    int (*right)(void);
+    uint64_t most; /* instructions allowed, 0 for no limit */
+} calls[] = {
+    {"evk_day_of_date, the last day", day_of_date, 150},
+    {"evk_date_of_day, the last day", date_of_day, 200000},
+    {"evk_day_of_iso, the last day", day_of_iso, 200},
+    {"evk_iso_of_day, the last day", iso_of_day, 250000},
+    {"evk_check, 31 rules with every limit under 32 transitions", check, 150000},
+    {"evk_instant_of_local of that plan, the last minute", instant_of_local, 150000},
+    {"evk_offset_at of that plan, in 2099", offset_at, 150000},
+    {"evk_previous of that plan", previous, 300000},
+    {"evk_previous, 31 times 0 0 30 2 * under 32 transitions", previous_of_none, 5000000},
+};
+enum { CALLS = sizeof calls / sizeof calls[0] };
+
+int main(int argc, char **argv) {
+    if (argc < 3) {
+        for (int k = 0; k < CALLS; k++) {
+            printf("%s|%llu\n", calls[k].name, (unsigned long long)calls[k].most);
+        }
+        return 0;
+    }
+    int k = atoi(argv[1]);
+    if (k < 0 || CALLS <= k) {
+        return 2;
+    }
+    int good = argv[2][0] != '1' || calls[k].right();
+    puts(good ? "right" : "wrong");
+    return good ? 0 : 1;
+}
