@@ -7,8 +7,8 @@
 #include "evandrusk.h"
 #include "plans.h"
 
-static const uint8_t limited[] = LIMITED_PLAN, no_days[] = PLAN_OF_NO_DAYS;
-enum { LIMITED_LENGTH = sizeof limited - 1, NO_DAYS_LENGTH = sizeof no_days - 1 }; /* without the string's end */
+static const uint8_t limited[] = LIMITED_PLAN, no_days[] = PLAN_OF_NO_DAYS, late[] = LATE_PLAN;
+enum { LIMITED_LENGTH = sizeof limited - 1, NO_DAYS_LENGTH = sizeof no_days - 1, LATE_LENGTH = sizeof late - 1 }; /* without the string's end */
 
 /* Each answers 1 where the answer is right. The last day is document 01's mark (d). */
 static int day_of_date(void) {
@@ -57,6 +57,16 @@ static int previous_of_none(void) {
     return found.number == EVK_NONE && found.instant == 0;
 }
 
+/* 2099-12-31 06:00 UTC, and nothing before it. */
+static int next_of_late(void) {
+    evk_found found = evk_next(late, LATE_LENGTH, 0);
+    return found.number == EVK_TAKEN && found.instant == 52594920;
+}
+
+static int previous_of_late(void) {
+    return evk_previous(late, LATE_LENGTH, 52594920).number == EVK_NONE;
+}
+
 static const struct {
     const char *name;
     int (*right)(void);
@@ -71,6 +81,8 @@ static const struct {
     {"evk_offset_at of that plan, in 2099", offset_at, 150000},
     {"evk_previous of that plan", previous, 300000},
     {"evk_previous, 31 times 0 0 30 2 * under 32 transitions", previous_of_none, 5000000},
+    {"evk_next from 2000, 45 rules that start on the last day", next_of_late, 300000},
+    {"evk_previous of that plan, from the start", previous_of_late, 300000},
 };
 enum { CALLS = sizeof calls / sizeof calls[0] };
 

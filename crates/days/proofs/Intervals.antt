@@ -3,7 +3,7 @@ use mathlib.Core.Bool.{Bool, true, false, cond, and-false, false≢true}
 use mathlib.Core.List.{List}
 use mathlib.Core.Logic.{dite}
 use mathlib.Core.Path.{_≡_, refl, ap, _∙_}
-use Prim.Native.Nat.{ℕ, _+_, _-_, _*_, _/_, _%_, _<_, _≤_}
+use Prim.Native.Nat.{ℕ, _+_, _-_, _*_, _/_, _%_, _<_, _≤_, max}
 use native.Mathlib.Decide.{decLt}
 use native.Mathlib.Nat.{mod-zero, mod-lt, mod-le, mod-eq-of-lt, mul-add-mod-self-left, div-add-mod}
 use native.Mathlib.Omega.{arith}
@@ -73,7 +73,7 @@ pub period-small : (weekly : Bool) (d : ℕ) → d ≤ 36525 → periodOf weekly
 period-small true d h = omega arith
 period-small false d h = omega arith
 
-module _ (l : List ℕ) (weekly : Bool) (kind : getD l 0 0 ≡ 4) (frequency : getD l 1 0 ≡ cond weekly 2 1) where
+module _ (l : List ℕ) (kind : getD l 0 0 ≡ 4) where
   is-rule : (j : ℕ) → dayHeld l j ≡ ruleDay (ruleOf l) j
   unfolding dayHeld
   is-rule j = simp kind
@@ -83,6 +83,13 @@ module _ (l : List ℕ) (weekly : Bool) (kind : getD l 0 0 ≡ 4) (frequency : g
   unfolding ruleDay
   before-start j h = is-rule j ∙ simp (lt-leb (getD l 3 0 / 1440) j h)
 
+  pub from-start : (d r : ℕ) → r ≡ max d (getD l 3 0 / 1440) → Passed (dayHeld l) d r
+  from-start d r e = record { rises = omega (arith, e); none = λ j a b t. before-start j (omega (arith, e)) }
+
+  pub none-before-start : (d : ℕ) → d ≤ getD l 3 0 / 1440 → Passed (dayHeld l) 0 d
+  none-before-start d h = record { rises = omega arith; none = λ j a b t. before-start j (omega arith) }
+
+module _ (l : List ℕ) (weekly : Bool) (kind : getD l 0 0 ≡ 4) (frequency : getD l 1 0 ≡ cond weekly 2 1) where
   period-is : (d : ℕ) → period (ruleOf l) d ≡ periodOf weekly d
   unfolding period
   period-is d = by-frequency weekly frequency
@@ -96,19 +103,13 @@ module _ (l : List ℕ) (weekly : Bool) (kind : getD l 0 0 ≡ 4) (frequency : g
   not-counted : (j : ℕ) → eqb ((periodOf weekly j - periodOf weekly (getD l 3 0 / 1440)) % getD l 2 0) 0 ≡ false → dayHeld l j ≡ false
   unfolding ruleDay counts
   not-counted j e =
-      is-rule j
+      is-rule l kind j
       ∙ simp (
         ap (λ (a : ℕ). eqb ((a - period (ruleOf l) (getD l 3 0 / 1440)) % getD l 2 0) 0) (period-is j)
             ∙ ap (λ (a : ℕ). eqb ((periodOf weekly j - a) % getD l 2 0) 0) (period-is (getD l 3 0 / 1440))
             ∙ e,
         and-false,
       )
-
-  pub from-start : (d : ℕ) → d ≤ getD l 3 0 / 1440 → Passed (dayHeld l) d (getD l 3 0 / 1440)
-  from-start d h = record { rises = h; none = λ j a b t. before-start j b }
-
-  pub none-before-start : (d : ℕ) → d ≤ getD l 3 0 / 1440 → Passed (dayHeld l) 0 d
-  none-before-start d h = record { rises = omega arith; none = λ j a b t. before-start j (omega arith) }
 
   -- an interval of none, or one longer than the window, does not come round again
   pub never-again : (d : ℕ) → getD l 3 0 / 1440 < d → d ≤ 36525 → 0 < (periodOf weekly d - periodOf weekly (getD l 3 0 / 1440)) % getD l 2 0

@@ -174,3 +174,25 @@ pub last-month-passed-back : (l : List ℕ) (k d : ℕ) → Down l k d → SetOf
 last-month-passed-back l k d w z h =
     last-none (dayHeld l) (getD l 14 0) (d + 1) (omega (arith, w .after))
     (λ j b c. none-held l k (w .here .month) z j (omega (arith, down-last l k d w h)) (omega (arith, w .here .to)))
+
+-- days that are passed before a range: nothing is left of it, or what is found in the rest
+module _ (held : ℕ → Bool) (low from end : ℕ) (p : Passed held low from) (h : low < end) (t : end ≤ 36525) where
+  none-first : (j : ℕ) → low ≤ j → j < from → j < end → held j ≡ false
+  none-first j a b c = p .none j a b (omega arith)
+
+  pub least-all-passed : end ≤ from → Least held low end end
+  least-all-passed g = least-none held low end (omega arith) (λ j a b. none-first j a (omega arith) b)
+
+  pub least-passed : (r : ℕ) → from < end → Least held from end r → Least held low end r
+  least-passed r g a = least-after held low from end r (p .rises) (λ j b c. none-first j b c (omega arith)) a
+
+  pub last-all-passed : end ≤ from → Last held low end low
+  last-all-passed g = last-none held low end (omega arith) (λ j a b. none-first j a (omega arith) b)
+
+  pub last-passed-none : (r : ℕ) → from < end → Last held from end r → r ≤ from → Last held low end low
+  last-passed-none r g a b =
+      last-none held low end (omega arith)
+      (λ j c d. dite (decLt j from) (λ (e : j < from). none-first j c e d) (λ (e : j < from → ⊥). a .fails j (omega arith) d))
+
+  pub last-passed : (r : ℕ) → Last held from end r → from < r → Last held low end r
+  last-passed r a b = record { from = omega (arith, p .rises); to = a .to; passes = λ c. a .passes b; fails = a .fails }

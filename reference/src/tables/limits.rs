@@ -10,7 +10,7 @@ pub const LIMITS: &str = include_str!("../../tables/limits.txt");
 
 /// The requests of each driver.
 pub const DATES: &[&str] = &["day_of_date", "date_of_day", "iso_of_day", "day_of_iso"];
-pub const PLANS: &[&str] = &["check", "next", "previous", "local"];
+pub const PLANS: &[&str] = &["check", "next", "previous", "local", "offset"];
 pub const SHEETS: &[&str] = &["sheet", "sheet_next", "sheet_previous"];
 
 /// What stands for longer text in the table.

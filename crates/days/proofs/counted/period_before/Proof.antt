@@ -15,7 +15,7 @@ element-copy-out-first c = search needs
 
 returns : tie.Need-returns
 returns c = let s = c .before .before in
-    none-before-start (now (s .args .f)) (s .args .weekly) (s .pre .1) (s .pre .2) (s .args .d) (c .if1 .taken)
+    none-before-start (now (s .args .f)) (s .pre .1) (s .args .d) (c .if1 .taken)
 
 sub-period : tie.Need-sub-period
 sub-period c = search needs

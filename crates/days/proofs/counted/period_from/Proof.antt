@@ -14,7 +14,7 @@ element-copy-out-first c = search needs
 
 returns : tie.Need-returns
 returns c = let s = c .before .before in
-    from-start (now (s .args .f)) (s .args .weekly) (s .pre .1) (s .pre .2) (s .args .d) (c .if1 .taken)
+    from-start (now (s .args .f)) (s .pre .1) (s .args .d) _ (omega (arith, c .if1 .taken))
 
 period-requires : tie.Need-period-requires
 period-requires c κs = search needs

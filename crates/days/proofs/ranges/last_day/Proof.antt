@@ -1,16 +1,11 @@
--- The steps go down from the day before the end.
-use mathlib.Core.Path.{_≡_, ap, _∙_}
-use Prim.Native.Nat.{ℕ, _-_}
+-- The days are walked down to a rule's start; before that none is held.
 use native.Mathlib.Omega.{arith}
 use borrow.Author.Needs.{needs}
 use denote.Ref.{now}
-use lib.ListN.{length}
-use Rattle.calendar.specs.declared.year.MonthDay.{MonthDay}
 use Rattle.frames.specs.Numbers.{dayHeld}
 use Rattle.days.specs.Search.{lastDay}
-use Rattle.days.specs.Steps.{readied}
 use Rattle.days.proofs.Answers.{last-is, last-empty}
-use Rattle.days.proofs.Readied.{walk-down, found-down}
+use Rattle.days.proofs.Walks.{last-all-passed, last-passed-none, last-passed}
 use Rattle.days.proofs.ranges.last_day.Statement.{statement}
 use Rattle.days.proofs.ranges.last_day.Tie as tie
 
@@ -22,45 +17,37 @@ unfolding lastDay
 returns c = let a = c .before .before .args in
     rw (← c .before .lesser .ensures) (last-empty (dayHeld (now (a .f))) (a .low) (c .before .lesser .result) (c .if1 .taken))
 
-local-date-requires : tie.Need-local-date-requires
-local-date-requires c κs = search needs
-
-ready-requires : tie.Need-ready-requires
-ready-requires c κs = search needs
-
-sub-back-from-day : tie.Need-sub-back-from-day
-sub-back-from-day c = search needs
-
-back-from-day-requires : tie.Need-back-from-day-requires
-back-from-day-requires c κs = let a = c .before .before .before .before .before .args in
-    let end = c .before .before .before .before .lesser in
-    let r = c .before .ready in
-    let n : length (r .result) ≡ 16 = search needs in
-    let e =
-    r .ensures ∙ ap (λ (k : ℕ). readied (now (a .f)) k (a .low)) (ap (λ (q : MonthDay). q .month) (c .before .before .local-date .ensures)) in
-    rw e (walk-down (now (a .f)) (a .low) (end .result) (omega arith) (omega (arith, end .ensures)) (rw e at n))
+begun-requires : tie.Need-begun-requires
+begun-requires c κs = search needs
 
 returns-2 : tie.Need-returns-2
 unfolding lastDay
-returns-2 c = let a = c .before .before .before .before .before .before .args in
-    let end = c .before .before .before .before .before .lesser in
-    let r = c .before .before .ready in
-    let n : length (r .result) ≡ 16 = search needs in
-    let e =
-    r .ensures
-    ∙ ap (λ (k : ℕ). readied (now (a .f)) k (a .low)) (ap (λ (q : MonthDay). q .month) (c .before .before .before .local-date .ensures)) in
+returns-2 c = let a = c .before .before .before .before .args in
+    let end = c .before .before .before .lesser in
     rw (← end .ensures)
     (last-is (dayHeld (now (a .f))) (a .low) (end .result) _ (omega arith)
-    (found-down (now (a .f)) (a .low) (end .result) (omega arith) (omega (arith, end .ensures)) (rw e at n) _ (rw e at (c .back-from-day .ensures))))
+    (last-all-passed (dayHeld (now (a .f))) (a .low) _ (end .result) (c .before .begun .ensures) (omega arith) (omega (arith, end .ensures)) (c .if2 .taken)))
+
+walk-down-requires : tie.Need-walk-down-requires
+walk-down-requires c κs = (omega arith, omega (arith, c .before .before .before .lesser .ensures))
+
+returns-3 : tie.Need-returns-3
+unfolding lastDay
+returns-3 c = let a = c .before .before .before .before .before .before .args in
+    let end = c .before .before .before .before .before .lesser in
+    rw (← end .ensures)
+    (last-is (dayHeld (now (a .f))) (a .low) (end .result) _ (omega arith)
+    (last-passed-none (dayHeld (now (a .f))) (a .low) _ (end .result) (c .before .before .before .begun .ensures) (omega arith) (omega (arith, end .ensures)) _ (omega arith) (c .before .walk-down .ensures) (c .if3 .taken)))
+
+returns-4 : tie.Need-returns-4
+unfolding lastDay
+returns-4 c = let a = c .before .before .before .before .before .before .args in
+    let end = c .before .before .before .before .before .lesser in
+    rw (← end .ensures)
+    (last-is (dayHeld (now (a .f))) (a .low) (end .result) _ (omega arith)
+    (last-passed (dayHeld (now (a .f))) (a .low) _ (end .result) (c .before .before .before .begun .ensures) (omega arith) (omega (arith, end .ensures)) _ (c .before .walk-down .ensures) (omega arith)))
 
 pub last-day-spec : {M : Type 1} → statement M
 last-day-spec =
     tie.close
-    (tie.spec
-    lesser-requires
-    returns
-    local-date-requires
-    ready-requires
-    sub-back-from-day
-    back-from-day-requires
-    returns-2)
+    (tie.spec lesser-requires returns begun-requires returns-2 walk-down-requires returns-3 returns-4)
