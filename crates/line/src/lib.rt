@@ -1,6 +1,9 @@
 // A sheet line with what stands before it: its frame, or the lowest of 2 to 8 that applies.
 ghost use mathlib.Core.Path.{_≡_};
-ghost use Rattle.line.specs.Lined.{contextAs, lined};
+ghost use Prim.Native.Nat.{_≤_};
+ghost use lib.ListN.{length, getD, drop};
+ghost use Rattle.sheet.specs.Form.{tagged};
+ghost use Rattle.line.specs.Lined.{contextAs, linedForm, lined};
 use plan::Frame;
 use words::cursor::SPACE;
 
@@ -56,6 +59,22 @@ pub enum Lined {
     Refused(u64),
 }
 
+// A line by its tag letter.
+fn by_tag(line: &[u8], c: Context) -> Lined
+    requires { ⌜ 2 ≤ length (now line) ⌝ }
+    ensures { λ r. ⌜ r ≡ linedForm (contextAs c) (tagged (getD (now (line .entry)) 0 0) (drop 2 (now (line .entry)))) ⌝ }
+{
+    match line[0] {
+        LETTER_Z => zones::zone_line(line, c),
+        LETTER_T => zones::change_line(line, c),
+        LETTER_C => schedules::cron_line(line, c),
+        LETTER_R => schedules::rule_line(line, c),
+        LETTER_D => times::time_line(line, c, false),
+        LETTER_X => times::time_line(line, c, true),
+        _ => Lined::Refused(FORM),
+    }
+}
+
 // A line without its LF.
 pub fn read(line: &[u8], c: Context) -> Lined
     ensures { λ r. ⌜ r ≡ lined (contextAs c) (now (line .entry)) ⌝ }
@@ -69,13 +88,5 @@ pub fn read(line: &[u8], c: Context) -> Lined
     if line[1] != SPACE {
         return Lined::Refused(FORM);
     }
-    match line[0] {
-        LETTER_Z => zones::zone_line(line, c),
-        LETTER_T => zones::change_line(line, c),
-        LETTER_C => schedules::cron_line(line, c),
-        LETTER_R => schedules::rule_line(line, c),
-        LETTER_D => times::time_line(line, c, false),
-        LETTER_X => times::time_line(line, c, true),
-        _ => Lined::Refused(FORM),
-    }
+    by_tag(line, c)
 }
