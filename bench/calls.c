@@ -1,14 +1,49 @@
 /* Calls one exported function once, or not at all: the difference of the two counts is what it costs. The functions are those that plans.c
-   and sheets.c do not count, each on the argument that takes it longest of what was tried.
+   and sheets.c do not count, and those whose longest argument has more bytes than a string of C99 may have; each on the argument that takes it
+   longest of what was tried.
    calls NUMBER 0|1, or calls alone for the cases' names and limits. Exit status 1 for a wrong answer. */
 #include <stdio.h>
 #include <stdlib.h>
+#include <string.h>
 
 #include "evandrusk.h"
 #include "plans.h"
 
 static const uint8_t limited[] = LIMITED_PLAN, no_days[] = PLAN_OF_NO_DAYS, late[] = LATE_PLAN;
 enum { LIMITED_LENGTH = sizeof limited - 1, NO_DAYS_LENGTH = sizeof no_days - 1, LATE_LENGTH = sizeof late - 1 }; /* without the string's end */
+
+/* The longest plan has 4,989 bytes, the longest sheet 16,448. */
+struct text {
+    uint8_t bytes[16448];
+    size_t length;
+};
+static struct text rare, crowded_up, crowded_down, most_limited, counted;
+
+static void append(struct text *to, const char *bytes) {
+    size_t length = strlen(bytes);
+    memcpy(to->bytes + to->length, bytes, length);
+    to->length += length;
+}
+
+static void make(struct text *to, const char *first, const char *line, int times, const char *rest) {
+    append(to, first);
+    for (int k = 0; k < times; k++) {
+        append(to, line);
+    }
+    append(to, rest);
+}
+
+/* Made whether a call is counted or not, so that the making is not. */
+static void make_texts(void) {
+    make(&rare, "010000\n", LEAP_TUESDAY, 60, LATER_LEAP_TUESDAYS "FF40\n");
+    make(&crowded_up, "010000\n", FULL_LEAP_TUESDAY, 31, EVERY_MINUTE_BUT_31_IN_2000 "FF40\n");
+    make(&crowded_down, "010000\n", FULL_LEAP_TUESDAY, 31, EVERY_MINUTE_BUT_31_IN_2028 "FF40\n");
+    make(&most_limited, "010000\n", MOST_LIMITED, 63, "FF40\n");
+    make(&counted, "Z +0000\n",
+         "R 20000101T0600 FREQ=MONTHLY;BYDAY=SU,MO,TU,WE,TH,FR,SA,1SU,-1SU;BYMONTHDAY=1,2,3,4,5,6,7,8,9,10,11,12,13,14,15,16,17,18,19,20,21,22,23,24,25,26,"
+         "27,28,29,30,31,-1;BYSETPOS=1,-1;COUNT=9999\n",
+         63, "");
+}
 
 /* Each answers 1 where the answer is right. The last day is document 01's mark (d). */
 static int day_of_date(void) {
@@ -67,6 +102,38 @@ static int previous_of_late(void) {
     return evk_previous(late, LATE_LENGTH, 52594920).number == EVK_NONE;
 }
 
+/* From 2000-02-29 06:00 UTC on: the later ones are excepted, and each rule is walked to the end of 2099. */
+static int next_of_rare(void) {
+    return evk_next(rare.bytes, rare.length, 85320).number == EVK_NONE;
+}
+
+static int previous_of_rare(void) {
+    evk_found found = evk_previous(rare.bytes, rare.length, INT64_MAX);
+    return found.number == EVK_TAKEN && found.instant == 85320;
+}
+
+/* Each of 31 minutes is found and is excepted; before each find the rules are walked through 28 years, 2000-02-29 to 2028-02-29. */
+static int next_of_crowded(void) {
+    evk_found found = evk_next(crowded_up.bytes, crowded_up.length, 85535);
+    return found.number == EVK_TAKEN && found.instant == 85567;
+}
+
+static int previous_of_crowded(void) {
+    evk_found found = evk_previous(crowded_down.bytes, crowded_down.length, 14811967);
+    return found.number == EVK_TAKEN && found.instant == 14811935;
+}
+
+static int check_most_limited(void) {
+    return evk_check(most_limited.bytes, most_limited.length).number == EVK_TAKEN;
+}
+
+/* There are 2,400 occurrences and not 9,999: the plan is that of the rules without COUNT. */
+static int compile(void) {
+    static uint8_t plan[4989];
+    evk_compiled found = evk_compile(counted.bytes, counted.length, plan, sizeof plan);
+    return found.number == EVK_TAKEN && found.length == most_limited.length && memcmp(plan, most_limited.bytes, found.length) == 0;
+}
+
 static const struct {
     const char *name;
     int (*right)(void);
@@ -83,6 +150,12 @@ static const struct {
     {"evk_previous, 31 times 0 0 30 2 * under 32 transitions", previous_of_none, 5000000},
     {"evk_next from 2000, 45 rules that start on the last day", next_of_late, 300000},
     {"evk_previous of that plan, from the start", previous_of_late, 300000},
+    {"evk_next, 60 rules of 29 February on a Tuesday, the later ones excepted", next_of_rare, 50000000},
+    {"evk_previous of that plan", previous_of_rare, 50000000},
+    {"evk_next, 31 rules with nothing for 28 years, every minute, the next 31 excepted", next_of_crowded, 360000000},
+    {"evk_previous of such a plan", previous_of_crowded, 360000000},
+    {"evk_check, 63 rules with every limit", check_most_limited, 250000},
+    {"evk_compile, 63 rules with every limit and a COUNT that the century does not fill", compile, 100000000},
 };
 enum { CALLS = sizeof calls / sizeof calls[0] };
 
@@ -93,6 +166,7 @@ int main(int argc, char **argv) {
         }
         return 0;
     }
+    make_texts();
     int k = atoi(argv[1]);
     if (k < 0 || CALLS <= k) {
         return 2;
