@@ -39,10 +39,10 @@ left-first text rows =
     record { within = omega arith; places = omega arith; answer = whole-answer (loadFrom 0 start (linesOf text .whole) (linesOf text .tail)); stored = refl }
 
 -- the frames read of a line and of those after it
-onReadEnd : ℕ → Frame × Before → List (List ℕ) → Bool → List Frame
+abbrev pub onReadEnd : ℕ → Frame × Before → List (List ℕ) → Bool → List Frame
 onReadEnd n r more t = elim t [ true ↦ [] | false ↦ r .0 ∷ readFrom (n + 1) (r .1) more ]
 
-onRead : ℕ → List (List ℕ) → Option (Frame × Before) → List Frame
+abbrev pub onRead : ℕ → List (List ℕ) → Option (Frame × Before) → List Frame
 onRead n more o = elim o [ none ↦ [] | some r ↦ onReadEnd n r more (isEnd (r .0)) ]
 
 -- nothing stands after a text's end, and something after any other place
@@ -96,7 +96,7 @@ module _ (text : List ℕ) (rows₀ rows : List (List ℕ)) (n at : ℕ) (b : Be
 
     read : (o : Option (Frame × Before)) → o ≡ allowed n b (take (lineEnd text at - at) (drop at text))
         → sets rows n (map rowOf (onRead n (linesOf (drop (lineEnd text at + 1) text) .whole) o)) ≡ sets rows₀ 0 (map rowOf (readFrames text))
-    unfolding readFrom onRead onReadEnd
+    unfolding readFrom
     read o e =
         ap (λ (x : Option (Frame × Before)). sets rows n (map rowOf (onRead n (linesOf (drop (lineEnd text at + 1) text) .whole) x))) e
         ∙ ap (λ (ls : Lines). sets rows n (map rowOf (readFrom n b (ls .whole)))) (sym (lines-at text at (left .within) h))
@@ -104,13 +104,11 @@ module _ (text : List ℕ) (rows₀ rows : List (List ℕ)) (n at : ℕ) (b : Be
 
     pub left-not : none ≡ allowed n b (take (lineEnd text at - at) (drop at text))
         → (Loaded.Refused (n + 1) ≡ loadedAs (load text)) × (rows ≡ sets rows₀ 0 (map rowOf (readFrames text)))
-    unfolding onRead
     left-not e = (answered none e, read none e)
 
     module _ (f : Frame) (after : Before) (e : some (f, after) ≡ allowed n b (take (lineEnd text at - at) (drop at text))) where
       pub left-end : isEnd f ≡ true
           → (endedAs n (length text - (lineEnd text at + 1)) ≡ loadedAs (load text)) × (rows ≡ sets rows₀ 0 (map rowOf (readFrames text)))
-      unfolding onRead onReadEnd
       left-end t = (
         by-rest (length text - (lineEnd text at + 1)) refl
             ∙ ap
@@ -132,7 +130,6 @@ module _ (text : List ℕ) (rows₀ rows : List (List ℕ)) (n at : ℕ) (b : Be
       left-room t = among n f t (line-allowed n b (take (lineEnd text at - at) (drop at text)) (f, after) (sym e) .number)
 
       pub left-on : isEnd f ≡ false → Left text rows₀ (set rows n (rowOf f)) (n + 1) (lineEnd text at + 1) after
-      unfolding onRead onReadEnd
       left-on t =
           let s : n + 1 ≡ suc n = omega arith in
           record {

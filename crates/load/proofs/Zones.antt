@@ -14,7 +14,7 @@ use lib.Seq.{take-all, take-nil, take-take, getD-take}
 use Rattle.calendar.proofs.Every.{both-true}
 use Rattle.calendar.specs.Below.{within}
 use Rattle.lines.specs.Lines.{linesOf}
-use Rattle.plan.proofs.Loading.{onRest, onEnd, onAllowed, among, taken-allowed}
+use Rattle.plan.proofs.Loading.{onRest, onEnd, onAllowed, no-plan, among, taken-allowed}
 use Rattle.plan.specs.Allowed.{allowedFrom, framesAllowed}
 use Rattle.plan.specs.Plan.{changesOf, offsetOf, planZone}
 use Rattle.plan.specs.Rows.{rowOf}
@@ -25,6 +25,7 @@ use Rattle.zone.specs.Zone.{offsetInRange, underLimits, transitionsGood, zoneGo
 use Rattle.zone.specs.declared.Transition.{Transition}
 use Rattle.load.specs.Loads.{readFrom, readFrames}
 use Rattle.load.specs.Zones.{changesIn, withChanges, bare, zoneOf}
+use Rattle.load.proofs.Rounds.{onReadEnd, onRead}
 use Rattle.load.proofs.ZoneRows.{changes-taken, held-changes}
 
 -- ---- the frames of a plan that is taken
@@ -206,13 +207,6 @@ unfolding framesAllowed
 taken-zone text fs e rows r = zone-read fs rows (taken-allowed text fs e) r
 
 -- the frames that are read of it are its frames
-not-refused : {A : Type 0} (k : ℕ) (fs : List Frame) → refused k ≡ taken fs → A
-not-refused k fs e = absurd (false≢true (ap isTaken e))
-  where
-    isTaken : Load → Bool
-    isTaken (taken x) = true
-    isTaken (refused x) = false
-
 frames-in : (gs fs : List Frame) → taken gs ≡ taken fs → gs ≡ fs
 frames-in gs fs e = ap inside e
   where
@@ -220,35 +214,29 @@ frames-in gs fs e = ap inside e
     inside (taken x) = x
     inside (refused k) = gs
 
-abbrev readEnd : ℕ → Frame × Before → List (List ℕ) → Bool → List Frame
-readEnd n r ls t = elim t [ true ↦ [] | false ↦ r .0 ∷ readFrom (n + 1) (r .1) ls ]
-
-abbrev readLine : ℕ → List (List ℕ) → Option (Frame × Before) → List Frame
-readLine n ls o = elim o [ none ↦ [] | some r ↦ readEnd n r ls (isEnd (r .0)) ]
-
 module _ (n : ℕ) (ls : List (List ℕ)) (tail : List ℕ) (fs : List Frame) where
   end-read : (t : Bool) → cond t (taken []) (refused (n + 2)) ≡ taken fs → [] ≡ fs
   end-read true e = frames-in [] fs e
-  end-read false e = not-refused (n + 2) fs e
+  end-read false e = no-plan (n + 2) fs e
 
   more-read : (r : Frame × Before) → ((gs : List Frame) → loadFrom (n + 1) (r .1) ls tail ≡ taken gs → readFrom (n + 1) (r .1) ls ≡ gs)
       → (l : Load) → loadFrom (n + 1) (r .1) ls tail ≡ l → onRest (r .0) l ≡ taken fs → r .0 ∷ readFrom (n + 1) (r .1) ls ≡ fs
   more-read r again (taken gs) l e = ap (λ (x : List Frame). r .0 ∷ x) (again gs l) ∙ frames-in (r .0 ∷ gs) fs e
-  more-read r again (refused k) l e = not-refused k fs e
+  more-read r again (refused k) l e = no-plan k fs e
 
   line-read : ((b : Before) (gs : List Frame) → loadFrom (n + 1) b ls tail ≡ taken gs → readFrom (n + 1) b ls ≡ gs)
-      → (o : Option (Frame × Before)) → onAllowed n ls tail o ≡ taken fs → readLine n ls o ≡ fs
-  line-read again none e = not-refused (n + 1) fs e
+      → (o : Option (Frame × Before)) → onAllowed n ls tail o ≡ taken fs → onRead n ls o ≡ fs
+  line-read again none e = no-plan (n + 1) fs e
   line-read again (some r) e = by-end (isEnd (r .0)) e
     where
-      by-end : (t : Bool) → onEnd n r ls tail t ≡ taken fs → readEnd n r ls t ≡ fs
+      by-end : (t : Bool) → onEnd n r ls tail t ≡ taken fs → onReadEnd n r ls t ≡ fs
       by-end true e = end-read (eqb (length ls) 0 && eqb (length tail) 0) e
       by-end false e = more-read r (again (r .1)) (loadFrom (n + 1) (r .1) ls tail) refl e
 
 read-taken : (n : ℕ) (b : Before) (ls : List (List ℕ)) (tail : List ℕ) (fs : List Frame) → loadFrom n b ls tail ≡ taken fs
     → readFrom n b ls ≡ fs
 unfolding loadFrom readFrom
-read-taken n b [] tail fs e = not-refused (n + 1) fs e
+read-taken n b [] tail fs e = no-plan (n + 1) fs e
 read-taken n b (l ∷ ls) tail fs e = line-read n ls tail fs (λ c gs. read-taken (n + 1) c ls tail gs) (allowed n b l) e
 
 pub readFrames-of-taken : (text : List ℕ) (fs : List Frame) → load text ≡ taken fs → readFrames text ≡ fs

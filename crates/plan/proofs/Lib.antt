@@ -3,7 +3,6 @@ pub mod Readings
 pub mod Rows
 pub mod Frames
 pub mod Fitting
-pub mod Joined
 pub mod Loading
 pub mod Placing
 pub mod Cases

@@ -6,13 +6,15 @@ use mathlib.Core.Path.{_≡_, refl, sym, ap, subst, _∙_}
 use Prim.Native.Nat.{ℕ, suc, _+_, _%_, _<_, _≤_}
 use native.Mathlib.Nat.{add-zero}
 use native.Mathlib.Omega.{arith}
-use borrow.Author.Tests.{eqb-true, eq-eqb, ltb-true, not-true}
+use borrow.Author.Tests.{eqb-true, eq-eqb, ne-eqb, ltb-true, not-true}
 use lib.Dec.{eqb}
 use lib.ListN.{length}
 use Rattle.calendar.proofs.Every.{both-true}
 use Rattle.calendar.specs.Below.{allOf}
+use Rattle.hex.proofs.Digits.{no-line-end}
 use Rattle.hex.proofs.Spelt.{isSome, spells-some}
 use Rattle.hex.specs.Hex.{isDigit, spells}
+use Rattle.lines.proofs.Joined.{joined, lines-joined}
 use Rattle.lines.specs.Lines.{linesOf}
 use Rattle.plan.specs.Allowed.{allowedFrom, framesAllowed}
 use Rattle.plan.specs.Taken.{Before, start, Loaded, taken, refused, frameGood, place, numberGood, isEnd, allowed, loadFrom, load}
@@ -20,13 +22,23 @@ use Rattle.plan.specs.Text.{frameLine, planText, lineFrame}
 use Rattle.plan.specs.declared.Frame.{Frame}
 use Rattle.plan.proofs.Fitting.{good-fits, end-fits}
 use Rattle.plan.proofs.Frames.{frame-spells, written-is-read, read-is-written}
-use Rattle.plan.proofs.Joined.{joined, line-first, text-joined}
 
 -- a frame's line is digits
 digits-alone : (f : Frame) → allOf isDigit (frameLine f) ≡ true
 unfolding spells
 digits-alone f =
     both-true (eqb (length (frameLine f) % 2) 0) _ (spells-some (frameLine f) ∙ ap isSome (frame-spells f)) .1
+
+-- a line of digits before a text is one line more
+line-first : (line text : List ℕ) → allOf isDigit line ≡ true
+    → linesOf (line ++ (10 ∷ text)) ≡ record { whole = line ∷ linesOf text .whole; tail = linesOf text .tail }
+unfolding linesOf
+line-first [] text h = refl
+line-first (c ∷ cs) text h =
+    let d : isDigit c ≡ true = both-true (isDigit c) _ h .0 in
+    let n : eqb c 10 ≡ false = ne-eqb c 10 (no-line-end c (ltb-true _ _ d)) in
+    let r = line-first cs text (both-true (isDigit c) _ h .1) in
+    rw (n, linesOf, r)
 
 -- the lines of a plan's text
 pub lines-of-plan : (fs : List Frame) → linesOf (planText fs) ≡ record { whole = map frameLine fs; tail = [] }
@@ -35,7 +47,7 @@ lines-of-plan [] = refl
 lines-of-plan (f ∷ fs) = line-first (frameLine f) (planText fs) (digits-alone f) ∙ rw (lines-of-plan fs)
 
 pub plan-joined : (fs : List Frame) → joined (map frameLine fs) [] ≡ planText fs
-unfolding planText joined
+unfolding planText
 plan-joined [] = refl
 plan-joined (f ∷ fs) = rw (plan-joined fs)
 
@@ -201,7 +213,7 @@ record Plan (n : ℕ) (before : Before) (whole : List (List ℕ)) (tail : List �
   no-tail : tail ≡ []
   allows : allowedFrom n before fs ≡ true
 
-no-plan : {A : Type 0} (k : ℕ) (fs : List Frame) → refused k ≡ taken fs → A
+pub no-plan : {A : Type 0} (k : ℕ) (fs : List Frame) → refused k ≡ taken fs → A
 no-plan k fs e = let z : _≡_ {A = ℕ} 0 1 = cc in absurd (omega arith)
 
 empty : {A : Type 0} (l : List A) → eqb (length l) 0 ≡ true → l ≡ []
@@ -283,7 +295,7 @@ pub taken-plan : (text : List ℕ) (fs : List Frame) → load text ≡ taken fs 
 taken-plan text fs h =
     let p = loaded text fs h in
     let z : 0 + length fs ≡ length fs = omega arith in
-    sym (text-joined text) ∙ (rw (p .written, p .no-tail, z) (plan-joined (fs ++ (Frame.End (length fs) ∷ []))))
+    sym (lines-joined text) ∙ (rw (p .written, p .no-tail, z) (plan-joined (fs ++ (Frame.End (length fs) ∷ []))))
 
 -- and these frames are allowed
 pub taken-allowed : (text : List ℕ) (fs : List Frame) → load text ≡ taken fs → framesAllowed fs ≡ true
