@@ -18,7 +18,7 @@ use Rattle.calendar.proofs.Every.{left, right, every}
 twelve : (b : Bool) → length (monthLengths b) ≡ 12
 twelve b = refl
 
-whole-year : (b : Bool) → sum (monthLengths b) ≡ cond b 366 365
+pub whole-year : (b : Bool) → sum (monthLengths b) ≡ cond b 366 365
 whole-year true = refl
 whole-year false = refl
 

@@ -14,7 +14,7 @@ use Rattle.calendar.specs.declared.year.MonthDay.{MonthDay}
 use Rattle.calendar.proofs.Dates.{Valid, date-of-day-of-date}
 use Rattle.calendar.proofs.Every.{left, right, every}
 use Rattle.calendar.proofs.Months.{InMonth, month-day-holds, month-day-same}
-use Rattle.calendar.proofs.Years.{trichotomy}
+use Rattle.calendar.proofs.Years.{leap-day, trichotomy}
 
 same-bool : (a b : Bool) → T (Bool·beq a b) → a ≡ b
 same-bool true true t = refl
@@ -50,10 +50,6 @@ divided : (y : ℕ) (b : Bool) → divides 4 y ≡ b → (y + 1 + 3) / 4 ≡ (y 
 divided y true e = omega (arith, eqb-true (y % 4) 0 e)
 divided y false e = omega (arith, eqb-false (y % 4) 0 e)
 
-picked : (b : Bool) → cond b 366 365 ≡ 365 + cond b 1 0
-picked true = refl
-picked false = refl
-
 -- the year of a local day
 pub record InWindowYear (n : ℕ) : Type 0 where
   pub last : 4 * n / 1461 ≤ 99
@@ -63,7 +59,7 @@ pub record InWindowYear (n : ℕ) : Type 0 where
 pub in-window-year : (n : ℕ) → n < 36525 → InWindowYear n
 unfolding windowYear
 in-window-year n h =
-    record { last = omega arith; from = omega arith; short = omega (arith, divided (4 * n / 1461) (divides 4 (4 * n / 1461)) refl, picked (divides 4 (4 * n / 1461))) }
+    record { last = omega arith; from = omega arith; short = omega (arith, divided (4 * n / 1461) (divides 4 (4 * n / 1461)) refl, leap-day (divides 4 (4 * n / 1461))) }
 
 -- months within the window
 month-year : (k : ℕ) → k < 1200 → k / 12 < 100

@@ -7,20 +7,18 @@ use native.Mathlib.Decide.{decLt}
 use native.Mathlib.Omega.{arith}
 use borrow.Author.Tests.{eqb-true, eqb-false, lt-ltb, le-ltb}
 use lib.Dec.{eqb}
-use Rattle.calendar.specs.Calendar.{divides, leapYear, monthLengths, sum, yearLength, yearsBefore, yearStart, yearFrom, yearDay}
+use Rattle.calendar.specs.Calendar.{divides, leapYear, yearLength, yearsBefore, yearStart, yearFrom, yearDay}
 use Rattle.calendar.specs.declared.year.YearDay.{YearDay}
-
-lengths : (b : Bool) → sum (monthLengths b) ≡ cond b 366 365
-lengths true = refl
-lengths false = refl
+use Rattle.calendar.proofs.Months.{whole-year}
 
 pub year-length : (y : ℕ) → yearLength y ≡ cond (leapYear y) 366 365
 unfolding yearLength
-year-length y = lengths (leapYear y)
+year-length y = whole-year (leapYear y)
 
-picked : (b : Bool) → cond b 366 365 ≡ 365 + cond b 1 0
-picked true = refl
-picked false = refl
+-- a leap year has a day more
+pub leap-day : (b : Bool) → cond b 366 365 ≡ 365 + cond b 1 0
+leap-day true = refl
+leap-day false = refl
 
 small : (b : Bool) → cond b 1 0 ≤ 1
 small true = omega arith
@@ -47,12 +45,12 @@ years-before (suc k) =
       arith,
       years-before k,
       year-length (suc k),
-      picked (leapYear (suc k)),
+      leap-day (leapYear (suc k)),
       leaps (divides 4 (suc k)) (divides 100 (suc k)) (divides 400 (suc k)) k refl refl refl,
     )
 
 pub year-length-range : (y : ℕ) → (365 ≤ yearLength y) × (yearLength y ≤ 366)
-year-length-range y = omega (arith, year-length y, picked (leapYear y), small (leapYear y))
+year-length-range y = omega (arith, year-length y, leap-day (leapYear y), small (leapYear y))
 
 pub year-start-next : (y : ℕ) → 1 ≤ y → yearStart (y + 1) ≡ yearStart y + yearLength y
 unfolding yearStart yearsBefore

@@ -24,7 +24,7 @@ two-digits (a ∷ b ∷ cs) bytes e =
     let h : length cs ≡ 2 * length (s .rest) = two-digits cs (s .rest) (s .more) in
     rw (s .made) (omega arith)
 
-twice-suc : (k : ℕ) → 2 * suc k ≡ suc (suc (2 * k))
+pub twice-suc : (k : ℕ) → 2 * suc k ≡ suc (suc (2 * k))
 twice-suc k = omega arith
 
 -- past two digits a byte is past

@@ -10,7 +10,7 @@ use lib.ListN.{length, getD, take, length-append}
 use lib.Seq.{take-suc}
 use Rattle.hex.specs.Hex.{hexDigit, hexOf, digitValue, lineBytes, bytesNumber}
 use Rattle.hex.proofs.Digits.{byte-of-value, value-of-byte}
-use Rattle.hex.proofs.Numbers.{two-digits}
+use Rattle.hex.proofs.Numbers.{two-digits, twice-suc}
 use Rattle.hex.proofs.Spelt.{Spelt, spelt, spelt-back, nothing-spells, one-digit, no-digits}
 
 -- a number as k bytes
@@ -60,9 +60,6 @@ pub record DigitsAt (line bytes : List ℕ) (k : ℕ) : Type 0 where
   pub high : digitValue (getD line (2 * k) 0) < 16
   pub low : digitValue (getD line (2 * k + 1) 0) < 16
   pub byte : getD bytes k 0 ≡ 16 * digitValue (getD line (2 * k) 0) + digitValue (getD line (2 * k + 1) 0)
-
-twice-suc : (k : ℕ) → 2 * suc k ≡ suc (suc (2 * k))
-twice-suc k = omega arith
 
 twice-suc-one : (k : ℕ) → 2 * suc k + 1 ≡ suc (suc (2 * k + 1))
 twice-suc-one k = omega arith
