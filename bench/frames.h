@@ -5,12 +5,14 @@
 #include <stddef.h>
 #include <stdint.h>
 
-typedef uint64_t frame[16];
+enum { NUMBERS = 18 };
+
+typedef uint64_t frame[NUMBERS];
 
 uint64_t probe_list_least(const frame *frames, size_t count, uint64_t low, uint64_t high);
 uint64_t probe_list_last(const frame *frames, size_t count, uint64_t low, uint64_t high);
 
-enum { MINUTES = 52596000, CASES = 9 };
+enum { MINUTES = 52596000, CASES = 16 };
 
 /* A local time of the window as a calendar shows it, at a full hour. */
 struct when {
@@ -67,6 +69,24 @@ static const struct bench_case {
     /* a Friday, before the 13th: the day after the Thursday; 2000 begins on a Saturday */
     {"0 0 13 * 5", {{3, 1, 1, 1u << 13, 8190, 32, 3}}, 13675680,
      {2026, 1, 2, 0}, {2000, 1, 7, 0}, {2099, 12, 25, 0}, 0},
+    /* of every year one */
+    {"yearly on 1 June", {{4, 4, 1, 219240, 52595999, 0, 1u << 1, 0, 0, 0, 0, 0, 1u << 6}}, 20000000,
+     {2038, 6, 1, 6}, {2000, 6, 1, 6}, {2099, 6, 1, 6}, 2000},
+    /* days 1 to 15 and the last five, of these Monday to Friday, first Sundays and last Saturdays, in every month, of the year's the 1st,
+       20th, 31st, last and 31st from the end: in 2038 1 January, 4 and 26 February, 3 November and 31 December */
+    {"yearly with every limit and positions", {{4, 4, 1, 360, 52595999, 62, 0xfffe, 0x3e, 1ull << 32, 64ull << 32, 0x80100002, 0x80000002, 8190}}, 20000000,
+     {2038, 2, 4, 6}, {2000, 1, 2, 6}, {2099, 12, 31, 6}, 6000},
+    {"the same, asked on 27 February", {{4, 4, 1, 360, 52595999, 62, 0xfffe, 0x3e, 1ull << 32, 64ull << 32, 0x80100002, 0x80000002, 8190}}, 20070000,
+     {2038, 11, 3, 6}, {2000, 1, 2, 6}, {2099, 12, 31, 6}, 6000},
+    {"the same, asked after the year's last", {{4, 4, 1, 360, 52595999, 62, 0xfffe, 0x3e, 1ull << 32, 64ull << 32, 0x80100002, 0x80000002, 8190}}, 20511840,
+     {2039, 1, 2, 6}, {2000, 1, 2, 6}, {2099, 12, 31, 6}, 6000},
+    /* the 29th is a Thursday in 2024, and again 28 years later */
+    {"29 February on a Thursday", {{4, 4, 1, 12708360, 52595999, 16, 1u << 29, 0, 0, 0, 0, 0, 1u << 2}}, 12709440,
+     {2052, 2, 29, 6}, {2024, 2, 29, 6}, {2080, 2, 29, 6}, 40000},
+    {"29 February on a Thursday, every 28th year", {{4, 4, 28, 12708360, 52595999, 16, 1u << 29, 0, 0, 0, 0, 0, 1u << 2}}, 12709440,
+     {2052, 2, 29, 6}, {2024, 2, 29, 6}, {2080, 2, 29, 6}, 40000},
+    {"29 February on a Thursday, every 999th year", {{4, 4, 999, 12708360, 52595999, 16, 1u << 29, 0, 0, 0, 0, 0, 1u << 2}}, 12709440,
+     {0, 0, 0, 0}, {2024, 2, 29, 6}, {2024, 2, 29, 6}, 40000},
 };
 
 /* What the search says: the minute, or the range's end for none. */

@@ -47,7 +47,7 @@ static const uint8_t *bytes(const char *text) {
 }
 
 static void show_sheet(const char *sheet) {
-    uint8_t plan[4989]; /* no plan is longer */
+    uint8_t plan[5241]; /* no plan is longer */
     evk_compiled made = evk_compile(bytes(sheet), strlen(sheet), plan, sizeof plan);
     if (made.number == EVK_TAKEN) {
         printf("a plan of %" PRIu64 " bytes\n%.*s", made.length, (int)made.length, (const char *)plan);

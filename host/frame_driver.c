@@ -14,7 +14,7 @@
 #include <stdlib.h>
 #include <string.h>
 
-enum { FRAMES = 64, NUMBERS = 16, LINE_ROOM = 65536, MINUTES = 52596000, DAYS = 36525 };
+enum { FRAMES = 64, NUMBERS = 18, LINE_ROOM = 65536, MINUTES = 52596000, DAYS = 36525 };
 
 typedef uint64_t frame[NUMBERS];
 
@@ -24,7 +24,7 @@ uint64_t probe_nth_day(const uint64_t *numbers, uint64_t count, uint64_t low);
 
 /* How many hex digits each number of a frame has, by kind; 0 ends them. */
 static const int digits[7][NUMBERS] = {
-    {0}, {0}, {0}, {16, 8, 8, 4, 2, 2}, {2, 4, 8, 8, 2, 8, 8, 10, 10, 8, 8}, {8}, {8},
+    {0}, {0}, {0}, {16, 8, 8, 4, 2, 2}, {2, 4, 8, 8, 2, 8, 8, 10, 10, 8, 8, 4}, {8}, {8},
 };
 
 static int read_digits(const char **at, int count, uint64_t *number) {
@@ -108,9 +108,15 @@ static void nth(const frame *rule, uint64_t count) {
     }
 }
 
-/* The 64 frames fill two pages of 4,096 bytes, so that both their neighbours are pages that may not be touched. */
+/* The 64 frames do not fill whole pages. They lie at either side of a page that may not be touched, for three requests each: requests that
+   come in pairs then see both. */
+static lent_side next_side(void) {
+    static unsigned requests;
+    return requests++ / 3 % 2 == 0 ? LENT_AFTER : LENT_BEFORE;
+}
+
 static void in_turn(const frame *frames, size_t count, uint64_t from, uint64_t asked, int up) {
-    lent all = lend(frames, FRAMES * sizeof(frame), LENT_BEFORE);
+    lent all = lend(frames, FRAMES * sizeof(frame), next_side());
     (up ? rising : falling)(all.bytes, count, from, asked);
     give_back(all);
 }

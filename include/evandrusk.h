@@ -69,7 +69,7 @@ evk_day evk_day_of_iso(int64_t year, int64_t week, int64_t weekday);
    every byte after them is as it was. Refused, in this order: EVK_TOO_LONG, whatever its lines; else the first bad line
    decides, and in it the lowest of EVK_BAD_LINE to EVK_BAD_START: `line`, from 1, with the line without its LF at `bad_at`,
    of `bad_length` bytes; else EVK_NO_ROOM. On a refusal no byte of the buffer is changed; of the two that are of no line,
-   `line` and the place are 0. No plan is longer than 4989 bytes: a Z and 63 rules.
+   `line` and the place are 0. No plan is longer than 5241 bytes: a Z and 63 rules.
    "Z +0100\n" is the plan "01003C\nFF01\n", length 12; "Z +0100\nQ\n" is EVK_BAD_FORM, line 2, bad_at 8, bad_length 1. */
 evk_compiled evk_compile(const uint8_t *sheet, size_t sheet_length, uint8_t *plan, size_t plan_length);
 

@@ -1,8 +1,8 @@
 """Compares rule lines with dateutil's rrule: reference dump rules --seed S --times N | python3 rules.py
 
-Where dateutil differs from document 01: it joins plain and ordinal weekdays of one BYDAY by "and", so where
+Where dateutil differs from the documents: it joins plain and ordinal weekdays of one BYDAY by "and", so where
 both are given each plain one is written as its five ordinals, which means the same; it has no window, so its
-list ends with 2099.
+list ends with 2099. An ordinal in YEARLY without BYMONTH is one of the year there, and refused here.
 """
 
 import sys
@@ -11,7 +11,7 @@ from itertools import islice, takewhile
 
 from dateutil import rrule
 
-FREQUENCIES = {"DAILY": rrule.DAILY, "WEEKLY": rrule.WEEKLY, "MONTHLY": rrule.MONTHLY}
+FREQUENCIES = {"DAILY": rrule.DAILY, "WEEKLY": rrule.WEEKLY, "MONTHLY": rrule.MONTHLY, "YEARLY": rrule.YEARLY}
 WEEKDAYS = {str(day): day for day in (rrule.MO, rrule.TU, rrule.WE, rrule.TH, rrule.FR, rrule.SA, rrule.SU)}
 END = datetime(2099, 12, 31, 23, 59)
 

@@ -1,8 +1,11 @@
 //! The suite `frames`: the local minutes that the cron, rule, extra and excepted frames of generated sheets hold.
 
 use crate::entries::compile;
-use crate::generate::{all_positions, cron_line, large_set_rule_line, rule_line, sheet};
-use crate::local::{written, LAST_MINUTE, MINUTES_OF_A_DAY};
+use crate::generate::{
+    all_positions, all_positions_of_years, cron_line, large_set_rule_line, lines_of_years,
+    rule_line, sheet, started,
+};
+use crate::local::{LAST_MINUTE, MINUTES_OF_A_DAY};
 use crate::random::Random;
 
 /// Rounds for `--times 1`: a rule and a cron line over the whole century, and a sheet from two places.
@@ -16,7 +19,7 @@ const SOME: i64 = 300;
 const MOST_COUNT: i64 = 9_999;
 
 /// Lines that hold a minute at an end of the window, or would if it were not excepted or past *last*.
-const AT_THE_ENDS: [&str; 20] = [
+const AT_THE_ENDS: [&str; 26] = [
     "D 20000101T0000\nD 20991231T2359",
     "D 20000101T0001\nD 20991231T2358",
     "D 20000101T0000\nD 20991231T2359\nX 20000101T0000\nX 20991231T2359",
@@ -37,20 +40,31 @@ const AT_THE_ENDS: [&str; 20] = [
     "R 20991231T2359 FREQ=WEEKLY;INTERVAL=999",
     "R 20991231T2359 FREQ=MONTHLY;BYDAY=-1TH",
     "R 20991231T0000 FREQ=MONTHLY;BYDAY=TH;BYSETPOS=5",
+    "R 20000101T0000 FREQ=YEARLY;BYMONTH=1,12;BYMONTHDAY=1,-1",
+    "R 20000101T2359 FREQ=YEARLY;BYDAY=SA,TH;BYSETPOS=1,-1",
+    "R 20000101T0000 FREQ=WEEKLY;BYDAY=SA,TH;BYMONTH=1,12",
+    "R 20991231T2359 FREQ=YEARLY;INTERVAL=999",
+    "R 20991231T2359 FREQ=DAILY;BYMONTH=12",
+    "R 20000101T0000 FREQ=DAILY;BYMONTH=1;UNTIL=20000101T0000",
 ];
 
 /// Parts of rules that hold every day, and most days.
-const MANY_DAYS: [&str; 5] = [
+const MANY_DAYS: [&str; 8] = [
     "FREQ=DAILY",
     "FREQ=WEEKLY;BYDAY=SU,MO,TU,WE,TH,FR,SA",
     "FREQ=MONTHLY;BYDAY=SU,MO,TU,WE,TH,FR,SA",
     "FREQ=MONTHLY;BYMONTHDAY=-1,-2,-3,-4,-5,-6,-7,-8,-9,-10,-11,-12",
     "FREQ=DAILY;BYDAY=TH,SA,SU,MO",
+    "FREQ=YEARLY;BYDAY=SU,MO,TU,WE,TH,FR,SA",
+    "FREQ=YEARLY;BYDAY=TH,SA,SU,MO,FR;BYMONTH=1,2,3,5,8,12",
+    "FREQ=DAILY;BYMONTH=1,3,4,6,8,9,11,12",
 ];
 
 pub fn requests(seed: u64, times: u64) -> Box<dyn Iterator<Item = String>> {
     let mut fixed: Vec<String> = AT_THE_ENDS.into_iter().flat_map(at_the_ends).collect();
-    fixed.extend(all_positions().iter().flat_map(|line| whole(line)));
+    let positions = [all_positions(), all_positions_of_years()].concat();
+    fixed.extend(positions.iter().flat_map(|line| whole(line)));
+    fixed.extend(lines_of_years().iter().flat_map(|line| whole(line)));
     fixed.extend(MANY_DAYS.into_iter().flat_map(counts));
     let mut random = Random::new(seed);
     let rounds = times.saturating_mul(ROUNDS);
@@ -85,21 +99,11 @@ fn whole(line: &str) -> Vec<String> {
 fn counts(parts: &str) -> Vec<String> {
     let days = LAST_MINUTE / MINUTES_OF_A_DAY;
     let starts = [0, days - MOST_COUNT + 1, days - MOST_COUNT + 2, days];
-    let rules = starts.map(|day| frames_of(&rule_from(day, parts)));
+    let lines = starts.map(|day| started(day * MINUTES_OF_A_DAY, parts).unwrap_or_default());
+    let rules = lines.map(|line| frames_of(&format!("Z +0000\n{line}\n")));
     let asked =
         |rule: &String| [1, 2, MOST_COUNT - 1, MOST_COUNT].map(|n| format!("nth {n}{rule}"));
     rules.iter().flat_map(asked).collect()
-}
-
-/// The rule from the first day on, at or after the given one, that it holds.
-fn rule_from(day: i64, parts: &str) -> String {
-    let line = |day| {
-        let start = written(day * MINUTES_OF_A_DAY);
-        format!("Z +0000\nR {start} {parts}\n")
-    };
-    let taken = |sheet: &String| compile(sheet.as_bytes(), usize::MAX).0.number == 0;
-    let mut sheets = (day..).map(line);
-    sheets.find(taken).unwrap_or_default()
 }
 
 fn round(random: &mut Random) -> Vec<String> {

@@ -3,9 +3,10 @@
 use crate::cases_zones::plans_of_zones;
 use crate::entries::compile;
 use crate::generate::{
-    all_positions, bad_plan, crowded_sheet, damaged, damaged_everywhere, empty_sheet, ends_sheet,
-    full_sheet, large_set_sheet, midnight_sheet, near_a_transition, offset_text,
-    plans_at_the_edges, plans_at_the_zone_limits, sheet,
+    all_positions, all_positions_of_years, bad_plan, crowded_sheet, damaged, damaged_everywhere,
+    empty_sheet, ends_sheet, full_sheet, large_set_sheet, lines_of_years, midnight_sheet,
+    near_a_transition, offset_text, plans_at_the_edges, plans_at_the_zone_limits, sheet,
+    with_month_masks, with_short_rules,
 };
 use crate::hex::word_of;
 use crate::local::{FIRST_MINUTE, LAST_MINUTE, MINUTES_OF_A_DAY};
@@ -21,6 +22,9 @@ const ROUNDS: u64 = 300;
 pub const SORTS: u64 = 10;
 const DAMAGES: u64 = 4;
 const BAD_SORTS: u64 = 8;
+
+/// Rules of years that stand together.
+const RULES_OF_A_SHEET: usize = 4;
 
 /// Document 01's whole example.
 const EXAMPLE: &str = "\
@@ -49,26 +53,27 @@ R 20260131T0600 FREQ=MONTHLY;BYDAY=SA
 R 20260131T0600 FREQ=MONTHLY;BYDAY=SA,5SA,-1SA;BYMONTHDAY=31,-1;COUNT=3
 R 20260131T0600 FREQ=MONTHLY;BYDAY=5SA
 R 20260131T0600 FREQ=MONTHLY;BYDAY=MO,SA;BYSETPOS=-1,9
+R 20260131T0600 FREQ=YEARLY
+R 20260131T0600 FREQ=YEARLY;INTERVAL=4;BYDAY=SA;BYMONTHDAY=31,-1;COUNT=3
+R 20260131T0600 FREQ=YEARLY;BYDAY=SA,5SA,-1SA;BYMONTH=1,2,12
+R 20260131T0600 FREQ=YEARLY;BYDAY=MO,SA;BYSETPOS=-1,9
 D 20260329T0230
 X 20260329T0330
 ";
 
+/// A rule of every frequency; its month mask is changed.
+const EVERY_MONTH: [&str; 6] = [
+    "R 20260131T0600 FREQ=DAILY",
+    "R 20260131T0600 FREQ=WEEKLY;BYMONTH=1,2",
+    "R 20260131T0600 FREQ=MONTHLY;BYMONTH=1,12",
+    "R 20260131T0600 FREQ=YEARLY",
+    "R 20260131T0600 FREQ=YEARLY;BYDAY=5SA,SU;BYMONTH=1,5,8",
+    "R 20260131T0600 FREQ=YEARLY;BYDAY=SU,SA;BYSETPOS=9,-1",
+];
+
 pub fn requests(seed: u64, times: u64) -> Requests {
     let mut random = Random::new(seed);
-    let mut fixed = example_damaged();
-    fixed.extend(refused_at_the_extremes());
-    fixed.extend(exceptions_in_a_gap());
-    fixed.extend(lengths_of_a_plan());
-    for text in plans_past_16_bits() {
-        fixed.extend(about_few(&text, &mut random));
-    }
-    for sheet in sheets_at_the_ends().iter().chain(&sheets_of_positions()) {
-        fixed.extend(about(plan_of(sheet).as_bytes(), &mut random));
-    }
-    let every_kind = plan_of(EVERY_KIND);
-    fixed.extend(about(every_kind.as_bytes(), &mut random));
-    let damages = [damaged_everywhere(&every_kind), plans_at_the_zone_limits()].concat();
-    fixed.extend(damages.iter().map(|text| check(text)));
+    let mut fixed = about_fixed_plans(&mut random);
     let zones = plans_of_zones(&mut random, times);
     for text in zones.iter().map(|text| text.as_bytes()) {
         fixed.push(check(text));
@@ -80,6 +85,40 @@ pub fn requests(seed: u64, times: u64) -> Requests {
     let rounds = times.saturating_mul(ROUNDS);
     let rounds = (0..rounds).flat_map(move |number| round(number, &mut random));
     Box::new(fixed.into_iter().chain(rounds))
+}
+
+/// The plans that do not go by the seed.
+fn about_fixed_plans(random: &mut Random) -> Vec<String> {
+    let mut fixed = example_damaged();
+    fixed.extend(refused_at_the_extremes());
+    fixed.extend(exceptions_in_a_gap());
+    fixed.extend(lengths_of_a_plan());
+    for text in plans_past_16_bits() {
+        fixed.extend(about_few(&text, random));
+    }
+    let sheets = [
+        sheets_at_the_ends(),
+        sheets_of_positions(),
+        sheets_of_years(),
+    ]
+    .concat();
+    for sheet in sheets {
+        fixed.extend(about(plan_of(&sheet).as_bytes(), random));
+    }
+    for line in EVERY_MONTH {
+        let plan = plan_of(&format!("Z +0100\n{line}\n"));
+        for text in with_month_masks(&plan) {
+            fixed.extend(about_few(&text, random));
+        }
+    }
+    let every_kind = plan_of(EVERY_KIND);
+    fixed.extend(about(every_kind.as_bytes(), random));
+    let mut damages = [damaged_everywhere(&every_kind), plans_at_the_zone_limits()].concat();
+    for length in [38, 39, 40] {
+        damages.extend(with_short_rules(&every_kind, length)); // of 39 bytes without a month mask
+    }
+    fixed.extend(damages.iter().map(|text| check(text)));
+    fixed
 }
 
 fn check(text: &[u8]) -> String {
@@ -156,7 +195,7 @@ fn lengths_of_a_plan() -> Vec<String> {
         }
         all.push(check(lines.as_bytes()));
     }
-    for digits in [78, 80, 256, 1_000, 20_000] {
+    for digits in [78, 80, 82, 256, 1_000, 20_000] {
         let long = "0".repeat(digits);
         all.push(check(format!("01003C\n{long}\nFF02\n").as_bytes()));
         all.push(check(format!("01003C\n04{long}\nFF02\n").as_bytes()));
@@ -211,9 +250,20 @@ fn zones_at_the_ends() -> Vec<String> {
     zones
 }
 
+/// Every position in months, and every third in years, of either sign in turn.
 pub fn sheets_of_positions() -> Vec<String> {
-    let lines = all_positions().into_iter();
+    let years = all_positions_of_years().into_iter().step_by(3);
+    let lines = all_positions().into_iter().chain(years);
     lines.map(|line| format!("Z +0000\n{line}\n")).collect()
+}
+
+/// Rules of years and of months, some to a sheet.
+pub fn sheets_of_years() -> Vec<String> {
+    let zone = "Z +0100\nT 20260329T0100 +0200\nT 20261025T0100 +0100\n";
+    let lines = lines_of_years();
+    let some = lines.chunks(RULES_OF_A_SHEET);
+    some.map(|rules| format!("{zone}{}\n", rules.join("\n")))
+        .collect()
 }
 
 fn line_of_zone_or_extra(place: i64) -> String {

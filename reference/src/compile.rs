@@ -75,7 +75,7 @@ fn cron_frame(cron: &Cron) -> Vec<u8> {
 
 /// "frequency 1 (1 daily, 2 weekly, 3 monthly), interval 2, start 4, last 4, plain weekday mask 1, month days
 /// 4, month days from the end 4, ordinals 1..5 one weekday mask each, ordinals -1..-5 likewise, positions 4,
-/// positions from the end 4".
+/// positions from the end 4"; "a month mask of 2 bytes at its end".
 fn rule_frame(rule: &Rule) -> Vec<u8> {
     let month_days = month_days(rule);
     let positions = rule.by_set_pos.clone().unwrap_or_default();
@@ -93,6 +93,7 @@ fn rule_frame(rule: &Rule) -> Vec<u8> {
     }
     numbers.push((from_the_front(&positions), 4));
     numbers.push((from_the_end(&positions), 4));
+    numbers.push((mask(months(rule).into_iter()), 2));
     kind_and(0x04, &numbers)
 }
 
@@ -101,6 +102,7 @@ fn frequency_number(frequency: Frequency) -> i64 {
         Frequency::Daily => 1,
         Frequency::Weekly => 2,
         Frequency::Monthly => 3,
+        Frequency::Yearly => 4,
     }
 }
 
@@ -129,14 +131,26 @@ fn plain_weekdays(rule: &Rule) -> i64 {
     }
 }
 
-/// "MONTHLY: [..] with neither, the start's day of month".
+/// "MONTHLY: [..] with neither, the start's day of month"; YEARLY: "with neither, the start's day".
 fn month_days(rule: &Rule) -> Vec<i64> {
     match (rule.frequency, &rule.by_day, &rule.by_month_day) {
-        (Frequency::Monthly, None, None) => {
+        (Frequency::Monthly | Frequency::Yearly, None, None) => {
             let date = date_of_day(day_of_minute(rule.start));
             date.map(|date| date.day).into_iter().collect()
         }
         (_, _, given) => given.clone().unwrap_or_default(),
+    }
+}
+
+/// "zero for no limit"; YEARLY: "with neither, [..] in the BYMONTH months, or in the start's month".
+fn months(rule: &Rule) -> Vec<i64> {
+    let neither = rule.by_day.is_none() && rule.by_month_day.is_none();
+    match (rule.frequency, &rule.by_month) {
+        (Frequency::Yearly, None) if neither => {
+            let date = date_of_day(day_of_minute(rule.start));
+            date.map(|date| date.month).into_iter().collect()
+        }
+        (_, given) => given.clone().unwrap_or_default(),
     }
 }
 

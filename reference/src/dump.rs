@@ -3,7 +3,10 @@
 use std::io::{self, Write};
 
 use crate::dates::{date_of_day, iso_of_day, weekday, FIRST_DAY, LAST_DAY};
-use crate::generate::{cron_line, near_a_transition, rule_line, zone_lines};
+use crate::generate::{
+    all_positions, all_positions_of_years, cron_line, large_set_rule_line, lines_of_years,
+    near_a_transition, rule_line, zone_lines,
+};
 use crate::local::{written, FIRST_MINUTE, LAST_MINUTE};
 use crate::meaning::{of_sheet, Meaning};
 use crate::random::Random;
@@ -40,11 +43,19 @@ fn failed(why: String) -> io::Error {
     io::Error::new(io::ErrorKind::Other, why)
 }
 
-/// A line for each random R line: its text, its start, and the held times from there on.
+/// A line for each of the R lines that are written down or by a pattern, and for each random one: its text, its start, and
+/// the held times from there on.
 pub fn rules(seed: u64, times: u64, out: &mut impl Write) -> io::Result<()> {
     let mut random = Random::new(seed);
-    for _ in 0..times.saturating_mul(LINES) {
-        let line = rule_line(&mut random);
+    let fixed = [all_positions(), all_positions_of_years(), lines_of_years()].concat();
+    for line in fixed {
+        show(&line, FIRST_MINUTE, out)?;
+    }
+    for number in 0..times.saturating_mul(LINES) {
+        let line = match number % 5 {
+            0 => large_set_rule_line(&mut random),
+            _ => rule_line(&mut random),
+        };
         show(&line, FIRST_MINUTE, out)?;
     }
     Ok(())

@@ -118,8 +118,19 @@ fn kinds_and_lengths() {
     }
     assert!(!taken(&CRON[..40]) && !taken(&format!("{CRON}00")));
     let rule = compiled_frame("FREQ=DAILY");
-    assert_eq!(rule.len(), 78);
-    assert!(!taken(&rule[..76]) && !taken(&format!("{rule}00")));
+    assert_eq!(rule.len(), 82);
+    assert!(taken(&rule) && !taken(&rule[..80]) && !taken(&format!("{rule}00")));
+}
+
+/// "old frames are refused with 10": those of 39 bytes, at their line.
+#[test]
+fn frames_without_a_month_mask() {
+    for parts in ["FREQ=DAILY", "FREQ=WEEKLY", "FREQ=MONTHLY", "FREQ=YEARLY"] {
+        let rule = compiled_frame(parts);
+        assert!(taken(&rule) && !taken(&rule[..78]), "{parts}");
+        let third = line_refused(&plan(&[ZONE, CRON, &rule[..78], &rule]));
+        assert_eq!(third, 3, "{parts}");
+    }
 }
 
 #[test]
@@ -218,7 +229,7 @@ fn cron_flags() {
 fn rule_numbers() {
     let daily = compiled_frame("FREQ=DAILY");
     assert!(taken(&daily));
-    assert!(!taken(&with(&daily, 1, "00")) && !taken(&with(&daily, 1, "04")));
+    assert!(!taken(&with(&daily, 1, "00")) && !taken(&with(&daily, 1, "05")));
     assert!(!taken(&with(&daily, 2, "0000")) && taken(&with(&daily, 2, "03E7")));
     assert!(!taken(&with(&daily, 2, "03E8")) && !taken(&with(&daily, 2, "FFFF")));
     let start = &daily[8..16];
@@ -246,7 +257,7 @@ fn daily_masks() {
     }
 }
 
-/// "weekly: weekday mask set, all else after it zero".
+/// "weekly: weekday mask set, all else after it zero"; the month mask is free.
 #[test]
 fn weekly_masks() {
     let weekly = compiled_frame("FREQ=WEEKLY");
@@ -291,6 +302,95 @@ fn monthly_positions() {
     assert!(!taken(&with(&saturdays, 31, "80000000")));
 }
 
+/// "A yearly frame is taken only with a month day or weekday set, and with a month set where an ordinal is."
+#[test]
+fn yearly_masks() {
+    let yearly = compiled_frame("FREQ=YEARLY");
+    assert_eq!((&yearly[26..34], &yearly[78..]), ("80000000", "0002"));
+    assert!(taken(&yearly) && taken(&with(&yearly, 39, "0000")));
+    let neither = with(&yearly, 13, "00000000");
+    for months in ["0000", "0002", "1FFE"] {
+        let neither = with(&neither, 39, months);
+        assert!(!taken(&neither) && !taken(&with(&neither, 31, "00000002")));
+        assert!(taken(&with(&neither, 12, "40")) && !taken(&with(&neither, 12, "20")));
+        assert!(taken(&with(&neither, 17, "00000002")));
+        let has_month = months != "0000";
+        // the start is the fifth Saturday of January and the last
+        assert_eq!(taken(&with(&neither, 25, "40")), has_month, "{months}");
+        assert_eq!(taken(&with(&neither, 26, "40")), has_month, "{months}");
+        for byte in 21..31 {
+            let with_weekday = with(&with(&neither, byte, "40"), 12, "40");
+            assert_eq!(taken(&with_weekday), has_month, "byte {byte}");
+            assert!(!taken(&with(&with_weekday, byte, "C0")), "byte {byte}");
+        }
+        for byte in [21, 22, 23, 24, 27, 28, 29, 30] {
+            assert!(!taken(&with(&neither, byte, "40")), "byte {byte}");
+        }
+    }
+}
+
+/// The start is the fifth Saturday of its year and the 48th from the end.
+#[test]
+fn yearly_positions() {
+    let saturdays = compiled_frame("FREQ=YEARLY;BYDAY=SA");
+    assert_eq!(&saturdays[78..], "0000");
+    assert!(taken(&with(&saturdays, 31, "00000020")) && !taken(&with(&saturdays, 31, "FFFFFFDE")));
+    assert!(!taken(&with(&saturdays, 35, "FFFFFFFE")) && !taken(&with(&saturdays, 35, "00000002")));
+    assert!(taken(&with(&saturdays, 31, "FFFFFFFE")) && !taken(&with(&saturdays, 31, "FFFFFFFF")));
+    let in_january = with(&saturdays, 39, "0002");
+    assert!(
+        taken(&with(&in_january, 35, "00000002")) && !taken(&with(&in_january, 35, "00000004"))
+    );
+    let with_december = with(&saturdays, 39, "1002");
+    assert!(taken(&with(&with_december, 35, "00000020")));
+    assert!(!taken(&with(&with_december, 35, "00000002")));
+}
+
+/// "zero for no limit, free in every frequency, bits 1 to 12 only"; the start is in January.
+#[test]
+fn month_masks() {
+    for parts in [
+        "FREQ=DAILY",
+        "FREQ=WEEKLY",
+        "FREQ=MONTHLY",
+        "FREQ=YEARLY",
+        "FREQ=YEARLY;BYDAY=SA",
+    ] {
+        let frame = compiled_frame(parts);
+        for months in ["0000", "0002", "1FFE", "1002", "0006"] {
+            assert!(taken(&with(&frame, 39, months)), "{parts} {months}");
+        }
+        for months in [
+            "0001", "0003", "2002", "4002", "8002", "FFFF", "0004", "1FFC",
+        ] {
+            assert!(!taken(&with(&frame, 39, months)), "{parts} {months}");
+        }
+    }
+}
+
+/// "The defaults of YEARLY are filled in": the start's day and month, and neither where BYDAY or BYMONTHDAY is given.
+#[test]
+fn the_month_field() {
+    let field = |parts: &str| compiled_frame(parts)[78..].to_string();
+    for (parts, months) in [
+        ("FREQ=YEARLY", "0002"),
+        ("FREQ=YEARLY;BYMONTH=1,12", "1002"),
+        ("FREQ=YEARLY;BYMONTH=12,0001,01", "1002"),
+        ("FREQ=YEARLY;BYDAY=SA", "0000"),
+        ("FREQ=YEARLY;BYMONTHDAY=31", "0000"),
+        ("FREQ=YEARLY;BYDAY=SA;BYMONTHDAY=31;BYSETPOS=1", "0000"),
+        ("FREQ=YEARLY;BYDAY=5SA;BYMONTH=1,2", "0006"),
+        ("FREQ=MONTHLY", "0000"),
+        ("FREQ=MONTHLY;BYMONTH=1", "0002"),
+        ("FREQ=WEEKLY;BYMONTH=1,2,3,4,5,6,7,8,9,10,11,12", "1FFE"),
+        ("FREQ=DAILY;BYMONTH=1", "0002"),
+    ] {
+        assert_eq!(field(parts), months, "{parts}");
+    }
+    let with_months = compiled_frame("FREQ=YEARLY;BYMONTH=1,12");
+    assert_eq!(&with_months[24..34], "0080000000");
+}
+
 /// The start's occurrence is judged without *last*; an UNTIL is *last* itself, occurrence or not.
 #[test]
 fn the_last_field() {
@@ -301,6 +401,8 @@ fn the_last_field() {
     assert_eq!(field("FREQ=DAILY;COUNT=1"), Some(13_719_240));
     assert_eq!(field("FREQ=MONTHLY;COUNT=3"), Some(13_892_040));
     assert_eq!(field("FREQ=MONTHLY;COUNT=9999"), Some(52_595_999));
+    assert_eq!(field("FREQ=YEARLY;COUNT=3"), Some(14_770_440));
+    assert_eq!(field("FREQ=YEARLY;COUNT=75"), Some(52_595_999));
 }
 
 /// At least one answer is asked for, as the driver wants it.

@@ -216,9 +216,9 @@ fn the_suite_asks_the_longest_plan() {
     let asked = compiled.filter(|(_, sheet)| sheet == longest.as_bytes());
     let rooms: BTreeSet<usize> = asked.map(|(room, _)| room).collect();
     for (room, wanted) in [
-        (4_988, "9 0 0 0 0 -"),
-        (4_989, "0 0 4989 0 0 01003C\\0A04"),
-        (4_990, "0 0 4989 0 0 01003C\\0A04"),
+        (5_240, "9 0 0 0 0 -"),
+        (5_241, "0 0 5241 0 0 01003C\\0A04"),
+        (5_242, "0 0 5241 0 0 01003C\\0A04"),
     ] {
         assert!(rooms.contains(&room), "{rooms:?}");
         let answer = answered(&request(room, longest.as_bytes()));

@@ -26,9 +26,9 @@ fn the_reference_agrees() {
 
 #[test]
 fn the_examples_are_there() {
-    assert_eq!(examples(RFC5545).len(), 26);
+    assert_eq!(examples(RFC5545).len(), 33);
     assert_eq!(examples(CRONTAB).len(), 10);
-    assert_eq!(rows_of("examples").len(), 2 * 36);
+    assert_eq!(rows_of("examples").len(), 2 * 43);
 }
 
 /// "moved into range": 28 years before, the RFC's own dates have the same weekdays.
@@ -54,7 +54,7 @@ fn moving_the_examples_keeps_their_weekdays() {
 #[test]
 fn the_limits_have_two_sides() {
     let all = limits();
-    assert!(all.len() >= 180, "{}", all.len());
+    assert!(all.len() >= 240, "{}", all.len());
     let names: BTreeSet<&String> = all.iter().map(|limit| &limit.name).collect();
     assert_eq!(names.len(), all.len());
     for limit in &all {

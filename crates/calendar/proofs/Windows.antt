@@ -153,8 +153,8 @@ module _ (n : ℕ) (h : n < 36525) where
   month-below : localDate n .month < 1200
   month-below = omega (arith, month-is, local-place .december, in-window-year n h .last)
 
-  year-is : localDate n .month / 12 ≡ yearOf n
-  year-is = omega (arith, month-is, local-place .january, local-place .december)
+  pub year-of-day : localDate n .month / 12 ≡ yearOf n
+  year-of-day = omega (arith, month-is, local-place .january, local-place .december)
 
   month-of-year : localDate n .month % 12 + 1 ≡ placeOf n .month
   month-of-year = omega (arith, month-is, local-place .january, local-place .december)
@@ -167,8 +167,8 @@ module _ (n : ℕ) (h : n < 36525) where
       record {
         last = month-below;
         low = omega (arith, day-is, local-place .first);
-        high = rw (month-days-is (localDate n .month) month-below, year-is, month-of-year, day-is) (local-place .last);
-        whole = rw (month-first-is (localDate n .month) month-below, year-is, month-of-year, day-is)
+        high = rw (month-days-is (localDate n .month) month-below, year-of-day, month-of-year, day-is) (local-place .last);
+        whole = rw (month-first-is (localDate n .month) month-below, year-of-day, month-of-year, day-is)
             (omega (arith, local-place .whole, in-window-year n h .from));
       }
 

@@ -32,7 +32,7 @@ pub record Left (text : List ℕ) (rows₀ rows : List (List ℕ)) (at : ℕ) (s
   pub within : at ≤ length text
   pub lines : s .lines ≡ s .frames
   pub places : s .frames + length (linesOf (drop at text) .whole) ≤ 64
-  pub bytes : s .bytes ≤ s .frames * 79
+  pub bytes : s .bytes ≤ s .frames * 83
   pub answer : leftAs (s .frames) (s .bytes) (sheetFramesFrom (s .lines) at (s .context) (linesOf (drop at text) .whole) (linesOf (drop at text) .tail)) ≡ readAs (sheetFrames text)
   pub stored : sets rows (s .frames) (map rowOf (framesFrom (s .context) (linesOf (drop at text) .whole))) ≡ sets rows₀ 0 (map rowOf (framesRead text))
 
@@ -95,7 +95,7 @@ module _ (text : List ℕ) (rows₀ rows : List (List ℕ)) (at : ℕ) (s : Stat
       by-lines : (b : Bool) → small (cond b (Gathered.Refused (refusalAs 4 1 0 0)) (Gathered.Is (s .frames) (s .bytes))) ≡ true
       by-lines true = refl
       by-lines false =
-          rw (le-leb (s .frames) 64 (omega (arith, left .places)), le-leb (s .bytes) 5056 (omega (arith, left .places, left .bytes))) refl
+          rw (le-leb (s .frames) 64 (omega (arith, left .places)), le-leb (s .bytes) 5312 (omega (arith, left .places, left .bytes))) refl
 
   -- a line without LF
   pub left-tail : at < length text → length text ≤ lineEnd text at

@@ -68,7 +68,7 @@ abbrev pub answered : Gathered → Compiled
 answered (Gathered.Is n bytes) = Compiled.Plan bytes
 answered (Gathered.Refused r) = Compiled.Refused r
 
--- at most 64 frames, of at most 79 bytes each
+-- at most 64 frames, of at most 83 bytes each
 abbrev pub small : Gathered → Bool
-small (Gathered.Is n bytes) = leb n 64 && leb bytes 5056
+small (Gathered.Is n bytes) = leb n 64 && leb bytes 5312
 small (Gathered.Refused r) = true

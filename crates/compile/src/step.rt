@@ -112,7 +112,7 @@ fn refused(x: Lined) -> Stepped
 pub(crate) fn step(s: State, line: &[u8], rows: &mut Rows) -> Stepped
     requires { ⌜ s .lines < 64 ⌝ }
     requires { ⌜ s .frames < 64 ⌝ }
-    requires { ⌜ s .bytes ≤ 64 * 79 ⌝ }
+    requires { ⌜ s .bytes ≤ 64 * 83 ⌝ }
     ensures answer { λ r. ⌜ r ≡ stepped s (lined (contextAs (s .context)) (now (line .entry))) ⌝ }
     ensures rows { λ _. ⌜ now (rows .exit) ≡ rowsWith (now (rows .entry)) (s .frames) (lined (contextAs (s .context)) (now (line .entry))) ⌝ }
 {

@@ -15,18 +15,19 @@ use Rattle.masks.proofs.MaskFroms.{bit-above-mask}
 use Rattle.masks.specs.Masks.{bit}
 use Rattle.frames.specs.Months.{monthPart, monthSet, dayOf, InMonth}
 use Rattle.frames.specs.Numbers.{dayHeld, ruleOf, startMonth}
+use Rattle.frames.specs.Years.{yearCounts}
 use Rattle.days.proofs.Splits.{month-set-of}
 use Rattle.days.specs.Steps.{dayCounts, dayPart}
 use Rattle.count.specs.Runs.{inRun, Runs}
-use Rattle.count.specs.Sets.{HeldSet, AllFrom}
+use Rattle.count.specs.Sets.{setOf, HeldSet, AllFrom}
 use Rattle.count.specs.Turns.{widthOf, startDay, placeOf, Turn}
 use Rattle.count.proofs.NthDays.{day-below}
 use Rattle.count.proofs.Turning.{part-before, part-from}
 
-module _ (l : List ℕ) (k set : ℕ) (e : set ≡ monthSet l (startMonth l) k) where
+module _ (l : List ℕ) (k set : ℕ) (e : set ≡ setOf l k) where
   pub none-past : (n : ℕ) → monthDays k < n → bit set n ≡ false
   unfolding monthSet
-  none-past n h = ap (λ (m : ℕ). bit m n) e ∙ bit-above-mask (λ j. monthPart l (startMonth l) k (dayOf k j)) (monthDays k) 1 n (omega arith)
+  none-past n h = ap (λ (m : ℕ). bit m n) e ∙ bit-above-mask (monthPart l (startMonth l) (yearCounts l (k / 12)) k) (monthDays k) 1 n (omega arith)
 
   by-part : (n : ℕ) (b : Bool) → InMonth k n → dayPart l (dayOf k n) ≡ b → (bit set n && b) ≡ dayHeld l (dayOf k n)
   by-part n b i p = ap (λ (x : Bool). bit set n && x) (sym p) ∙ month-set-of l k set e .decides n i

@@ -1,13 +1,13 @@
 // The days of a month that a frame holds, as a mask.
 ghost use mathlib.Core.Path.{_≡_};
 ghost use mathlib.Core.Bool.{true, false};
-ghost use Prim.Native.Nat.{_<_};
+ghost use Prim.Native.Nat.{_/_, _<_};
 ghost use Rattle.calendar.specs.Window.{windowMonths};
 ghost use Rattle.frames.specs.Kinds.{kindIn, ruleKind};
-ghost use Rattle.frames.specs.Months.{monthSet};
 ghost use Rattle.frames.specs.Numbers.{startMonth};
+ghost use Rattle.frames.specs.Years.{yearCounts};
 ghost use Rattle.days.specs.Steps.{dayPart};
-ghost use Rattle.count.specs.Sets.{AllFrom, HeldSet};
+ghost use Rattle.count.specs.Sets.{setOf, AllFrom, HeldSet};
 use crate::runs;
 use crate::turns;
 use calendar::num;
@@ -32,7 +32,7 @@ fn by_month(f: &Row, d: u64) -> bool
 
 // The held days of a rule's month k, among the set that goes by the month: those from its start on that its interval counts.
 fn counted_set(f: &Row, k: u64, set: u64) -> u64
-    requires { ⌜ (k < windowMonths) × (kindIn (now f) ≡ ruleKind) × (set ≡ monthSet (now f) (startMonth (now f)) k) ⌝ }
+    requires { ⌜ (k < windowMonths) × (kindIn (now f) ≡ ruleKind) × (set ≡ setOf (now f) k) ⌝ }
     ensures { λ r. ⌜ HeldSet (now (f .entry)) k r ⌝ }
 {
     let first = window::month_first(k);
@@ -48,12 +48,12 @@ fn counted_set(f: &Row, k: u64, set: u64) -> u64
     runs::runs(set, from - first + 1, place % turn, width, turn, len)
 }
 
-// The held days of month k; `start` is the month of the start.
-pub(crate) fn held_set(f: &Row, start: u64, k: u64) -> u64
-    requires { ⌜ (start ≡ startMonth (now f)) × (k < windowMonths) ⌝ }
+// The held days of month k; `start` is the month of the start, `counts` are those of the month's year.
+pub(crate) fn held_set(f: &Row, start: u64, counts: u64, k: u64) -> u64
+    requires { ⌜ (start ≡ startMonth (now f)) × (k < windowMonths) × (counts ≡ yearCounts (now f) (k / 12)) ⌝ }
     ensures { λ r. ⌜ HeldSet (now (f .entry)) k r ⌝ }
 {
-    let set = months::month_set(f, start, k);
+    let set = months::month_set(f, start, counts, k);
     if by_month(f, window::month_first(k)) {
         return set;
     }

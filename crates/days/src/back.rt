@@ -1,11 +1,11 @@
 // The search over days downwards: the steps of `steps` the other way round, the days left to the walk's last day falling.
 ghost use mathlib.Core.Path.{_≡_};
 ghost use Prim.Native.Nat.{_+_, _-_, _≤_, _<_};
-ghost use Rattle.calendar.specs.Window.{monthDays, monthFirst, windowDays};
+ghost use Rattle.calendar.specs.Window.{monthDays, monthFirst, localDate, windowDays};
 ghost use Rattle.calendar.proofs.Leasts.{Last};
 ghost use Rattle.frames.specs.Months.{dayOf, InMonth};
 ghost use Rattle.frames.specs.Numbers.{dayHeld};
-ghost use Rattle.days.specs.Steps.{dayPart, SetOf, Ready, Down, lastDayIn};
+ghost use Rattle.days.specs.Steps.{dayPart, SetOf, Ready, InYear, Down, lastDayIn};
 use crate::counted;
 use crate::parts;
 use crate::walk;
@@ -14,7 +14,7 @@ use frames::places::Row;
 
 // One more than the greatest held day from day d down to the walk's last day, or that day.
 pub(crate) fn back_from_day(f: &Row, d: u64) -> u64
-    requires { ⌜ (Ready (now f)) × (lastDayIn (now f) ≤ d) × (d < windowDays) ⌝ }
+    requires { ⌜ (Ready (now f)) × (lastDayIn (now f) ≤ d) × (d < windowDays) × (InYear (now f) (localDate d .month)) ⌝ }
     ensures { λ r. ⌜ Last (dayHeld (now (f .entry))) (lastDayIn (now (f .entry))) (d + 1) r ⌝ }
 {
     let place = window::local_date(d);

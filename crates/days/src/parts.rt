@@ -4,8 +4,9 @@ ghost use mathlib.Core.Bool.{_&&_};
 ghost use Prim.Native.Nat.{_/_, _<_, _≤_};
 ghost use Rattle.calendar.specs.Window.{dayMinutes, windowDays};
 ghost use Rattle.masks.specs.Masks.{bit};
-ghost use Rattle.frames.specs.Numbers.{ruleOf, dayHeld, startMonth, startIn};
-ghost use Rattle.days.specs.Steps.{dayCounts, dayPart, SetOf, startMonthIn};
+ghost use Rattle.frames.specs.Numbers.{ruleOf, dayHeld, startIn};
+ghost use Rattle.days.specs.Steps.{dayCounts, dayPart, SetOf, Ready, InYear};
+use crate::counted::Periods;
 use crate::counted::period;
 use crate::walk;
 use calendar::num::over_whole;
@@ -17,15 +18,15 @@ use frames::places::Row;
 
 // The days of month k that the days' own part decides of.
 pub(crate) fn month_mask(f: &Row, k: u64) -> u64
-    requires { ⌜ startMonthIn (now f) ≡ startMonth (now f) ⌝ }
+    requires { ⌜ (Ready (now f)) × (InYear (now f) k) ⌝ }
     ensures { λ r. ⌜ SetOf (dayPart (now (f .entry))) (dayHeld (now (f .entry))) k r ⌝ }
 {
-    months::month_set(f, f[walk::START_MONTH], k)
+    months::month_set(f, f[walk::START_MONTH], f[walk::COUNTS], k)
 }
 
 // The same days, for a walk from month to month: most are passed by their number alone.
 pub(crate) fn passing_mask(f: &Row, k: u64) -> u64
-    requires { ⌜ startMonthIn (now f) ≡ startMonth (now f) ⌝ }
+    requires { ⌜ (Ready (now f)) × (InYear (now f) k) ⌝ }
     ensures { λ r. ⌜ SetOf (dayPart (now (f .entry))) (dayHeld (now (f .entry))) k r ⌝ }
 {
     if months::month_out(f, k) {
@@ -44,7 +45,11 @@ fn day_counts(f: &Row, d: u64) -> bool
         return over_whole(d - first, f[places::INTERVAL]) == 0;
     }
     if f[places::FREQUENCY] == kinds::WEEKLY {
-        return over_whole(period(true, d) - period(true, first), f[places::INTERVAL]) == 0;
+        return over_whole(
+            period(Periods::Weeks, d) - period(Periods::Weeks, first),
+            f[places::INTERVAL],
+        )
+            == 0;
     }
     true
 }

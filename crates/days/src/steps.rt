@@ -1,11 +1,11 @@
 // The search over days: a month step that skips and a day step that walks, calling each other, the days left to the walk's last day falling.
 ghost use mathlib.Core.Path.{_≡_};
 ghost use Prim.Native.Nat.{_+_, _≤_};
-ghost use Rattle.calendar.specs.Window.{monthDays, monthFirst};
+ghost use Rattle.calendar.specs.Window.{monthDays, monthFirst, localDate};
 ghost use Rattle.calendar.proofs.Leasts.{Least};
 ghost use Rattle.frames.specs.Months.{dayOf, InMonth};
 ghost use Rattle.frames.specs.Numbers.{dayHeld};
-ghost use Rattle.days.specs.Steps.{dayPart, SetOf, Ready, Up, lastDayIn};
+ghost use Rattle.days.specs.Steps.{dayPart, SetOf, Ready, InYear, Up, lastDayIn};
 use crate::counted;
 use crate::parts;
 use crate::walk;
@@ -14,7 +14,7 @@ use frames::places::Row;
 
 // The least held day from day d on up to the walk's last day, or the first past that.
 pub(crate) fn from_day(f: &Row, d: u64) -> u64
-    requires { ⌜ (Ready (now f)) × (d ≤ lastDayIn (now f)) ⌝ }
+    requires { ⌜ (Ready (now f)) × (d ≤ lastDayIn (now f)) × (InYear (now f) (localDate d .month)) ⌝ }
     ensures { λ r. ⌜ Least (dayHeld (now (f .entry))) d (lastDayIn (now (f .entry)) + 1) r ⌝ }
 {
     let place = window::local_date(d);

@@ -1,5 +1,5 @@
 -- A rule's frame has the limits that go with its frequency, and those that are wanted.
-use mathlib.Core.Bool.{Bool, true, false, not, _&&_, _||_, and-true, false≢true}
+use mathlib.Core.Bool.{Bool, true, false, not, _&&_, _||_, and-true, or-true, false≢true}
 use mathlib.Core.List.{List, [], _∷_}
 use mathlib.Core.Option.{Option, none, some}
 use mathlib.Core.Path.{_≡_, refl, sym, ap, _∙_}
@@ -9,21 +9,21 @@ use lib.Dec.{ltb, eqb}
 use Rattle.calendar.proofs.Every.{both, neither}
 use Rattle.calendar.specs.Below.{anyOf}
 use Rattle.calendar.specs.Window.{localDate, localWeekday}
-use Rattle.framed.proofs.Ends.{ends-limit}
+use Rattle.framed.proofs.Ends.{ends-limit, months-limit}
 use Rattle.framed.proofs.Goods.{Good, givenPasses}
 use Rattle.framed.proofs.Listed.{listed}
 use Rattle.framed.proofs.Ordinals.{ordinalEnds, entryGood, entries-limit}
 use Rattle.framed.proofs.Sets.{Framed, ordinalsFor, positionsFor, power-limits}
-use Rattle.framed.specs.Framed.{isPlain, isOrdinal as isOrdinalOf, ordinalsOf, weekdaysOf, daysOf}
+use Rattle.framed.specs.Framed.{isPlain, isOrdinal as isOrdinalOf, ordinalsOf, monthMask, weekdaysOf, daysOr, daysOf, monthsOf}
 use Rattle.frames.specs.Rule.{noLimit}
 use Rattle.frames.specs.declared.Rule.{Rule}
-use Rattle.good.proofs.Goods.{daily-good, weekly-good, monthly-good}
+use Rattle.good.proofs.Goods.{daily-good, weekly-good, monthly-good, yearly-good}
 use Rattle.masks.proofs.MaskFroms.{mask-none}
 use Rattle.masks.specs.Masks.{maskFrom}
 use Rattle.plan.specs.Taken.{frequencyGood}
-use Rattle.sheet.specs.Form.{Entry, plain, ordinal, Frequency, daily, weekly, monthly}
+use Rattle.sheet.specs.Form.{Entry, plain, ordinal, Frequency, daily, weekly, monthly, yearly}
 use Rattle.sheet.specs.Parts.{Given, isGiven, isOrdinal, ordinals, clashing}
-use Rattle.sheet.specs.Range.{dayNumberInRange}
+use Rattle.sheet.specs.Range.{dayNumberInRange, monthInRange}
 use Rattle.sheet.specs.Words.{Signed}
 use Rattle.demands.proofs.MaskGoods.{not-zero}
 
@@ -59,21 +59,46 @@ weekly-days (some es) first l e =
     let m : ℕ = maskFrom (λ w. anyOf (isPlain w) es) 7 0 in
     not-zero m (sym (and-true (eqb m 0)) ∙ ap (λ (b : Bool). eqb m 0 && b) (sym (no-ordinals (some es) e)) ∙ entries-limit es l)
 
--- a monthly rule has a month day or a weekday
+-- a monthly or yearly rule has a month day or a weekday
 either-limit : (a b c : Bool) → (a && c) ≡ false → (a && (b && c)) ≡ false
 either-limit true true c e = e
 either-limit true false c e = refl
 either-limit false b c e = refl
 
-monthly-days : (first : ℕ) (es : Option (List Entry)) (ns : Option (List Signed)) → givenPasses (listed entryGood) es ≡ true
+abbrev plainOr0 : Option (List Entry) → ℕ
+plainOr0 none = 0
+plainOr0 (some es) = maskFrom (λ w. anyOf (isPlain w) es) 7 0
+
+some-day : (first : ℕ) (es : Option (List Entry)) (ns : Option (List Signed)) → givenPasses (listed entryGood) es ≡ true
     → givenPasses (listed dayNumberInRange) ns ≡ true
-    → (eqb (weekdaysOf monthly es first) 0 && (noLimit (daysOf monthly es ns first) && noLimit (ordinalsFor es))) ≡ false
-unfolding weekdaysOf daysOf
-monthly-days first (some es) ns l d =
-    either-limit (eqb (maskFrom (λ w. anyOf (isPlain w) es) 7 0) 0) (noLimit (daysOf monthly (some es) ns first)) (noLimit (ordinalEnds es))
-    (entries-limit es l)
-monthly-days first none (some ns) l d = rw (ends-limit ns d) refl
-monthly-days first none none l d = rw (power-limits (localDate first .day)) refl
+    → (eqb (plainOr0 es) 0 && (noLimit (daysOr es ns first) && noLimit (ordinalsFor es))) ≡ false
+some-day first (some es) ns l d =
+    either-limit (eqb (maskFrom (λ w. anyOf (isPlain w) es) 7 0) 0) (noLimit (daysOr (some es) ns first)) (noLimit (ordinalEnds es)) (entries-limit es l)
+some-day first none (some ns) l d = rw (ends-limit ns d) refl
+some-day first none none l d = rw (power-limits (localDate first .day)) refl
+
+-- where no weekday is filled in
+given-weekdays : (f : Frequency) (es : Option (List Entry)) (first : ℕ) → weekdaysOf f none first ≡ 0 → weekdaysOf f es first ≡ plainOr0 es
+unfolding weekdaysOf
+given-weekdays f none first e = e
+given-weekdays f (some es) first e = refl
+
+given-monthly : (first : ℕ) → weekdaysOf monthly none first ≡ 0
+unfolding weekdaysOf
+given-monthly first = refl
+
+given-yearly : (first : ℕ) → weekdaysOf yearly none first ≡ 0
+unfolding weekdaysOf
+given-yearly first = refl
+
+-- and a yearly one with an ordinal a month
+months-named : (es : Option (List Entry)) (ns : Option (List Signed)) (ms : Option (List ℕ)) (first : ℕ) → givenPasses (listed monthInRange) ms ≡ true
+    → (ordinals es && not (isGiven ms)) ≡ false
+    → (noLimit (ordinalsFor es) || ltb 0 (monthsOf yearly es ns ms first)) ≡ true
+unfolding monthsOf
+months-named none ns ms first g c = refl
+months-named (some es) ns none first g c = rw (no-ordinals (some es) (sym (and-true (anyOf isOrdinal es)) ∙ c)) refl
+months-named (some es) ns (some ms) first g c = rw (not-zero (monthMask ms) (months-limit ms g)) (or-true (noLimit (ordinalEnds es)))
 
 module _ (g : Given) (first : ℕ) (r : Rule) (good : Good g) where
   pub frequency-good : (f : Frequency) → Framed f g first r → clashing f g ≡ false → frequencyGood r ≡ true
@@ -90,4 +115,11 @@ module _ (g : Given) (first : ℕ) (r : Rule) (good : Good g) where
       (both (weekly-days (g .days) first (good .days) (p .0)) (both (no-ordinals (g .days) (p .0)) (no-positions (g .positions) (q .0))))
   frequency-good monthly a c =
       monthly-good r (a .frequency)
-      ∙ rw (a .weekdays, a .days, a .ordinals) (ap not (monthly-days first (g .days) (g .monthDays) (good .days) (good .monthDays)))
+      ∙ rw (a .weekdays, a .days, a .ordinals, given-weekdays monthly (g .days) first (given-monthly first))
+      (ap not (some-day first (g .days) (g .monthDays) (good .days) (good .monthDays)))
+  frequency-good yearly a c =
+      let p = neither (ordinals (g .days) && not (isGiven (g .months))) _ c .0 in
+      yearly-good r (a .frequency)
+      ∙ rw (a .weekdays, a .days, a .ordinals, a .months, given-weekdays yearly (g .days) first (given-yearly first))
+      (both (ap not (some-day first (g .days) (g .monthDays) (good .days) (good .monthDays)))
+      (months-named (g .days) (g .monthDays) (g .months) first (good .months) p))

@@ -1,4 +1,4 @@
--- No plan is longer than that of a zone line and 63 rules: 4,989 bytes.
+-- No plan is longer than that of a zone line and 63 rules: 5,241 bytes.
 use mathlib.Core.Bool.{true, false≢true}
 use mathlib.Core.List.{List, [], _∷_, map}
 use mathlib.Core.Path.{_≡_, refl, sym, ap, _∙_}
@@ -21,7 +21,7 @@ use Rattle.demands.proofs.Sources.{plan-source}
 longer-by : (f : Frame) (fs : List Frame) → length (planText (f ∷ fs)) ≡ length (wholeLine f) + length (planText fs)
 longer-by f fs = ap length (sym (text-cons f fs)) ∙ length-append (wholeLine f) (planText fs)
 
-frames-long : (fs : List Frame) → length (planText fs) ≤ 79 * length fs
+frames-long : (fs : List Frame) → length (planText fs) ≤ 83 * length fs
 unfolding planText
 frames-long [] = omega arith
 frames-long (f ∷ fs) = omega (arith, longer-by f fs, whole-length f, line-short f, frames-long fs)
@@ -40,7 +40,7 @@ end-long : (n : ℕ) → length (frameLine (Frame.End n)) ≡ 4
 unfolding frameLine hexOf
 end-long n = refl
 
-sheet-long : (fs : List Form) → TakenSheet fs → length (compiledText fs) ≤ 4989
+sheet-long : (fs : List Form) → TakenSheet fs → length (compiledText fs) ≤ 5241
 sheet-long [] t = absurd (omega (arith, t .least))
 sheet-long (f ∷ fs) t =
     let z = zone-long f (taken _ f (t .each .0 .fine) .place) in
@@ -58,7 +58,7 @@ sheet-long (f ∷ fs) t =
       end-long n,
     )
 
-pub plan-longest : (text : List ℕ) (room : ℕ) (p : List ℕ) → compile text room ≡ plan p → length p ≤ 4989
+pub plan-longest : (text : List ℕ) (room : ℕ) (p : List ℕ) → compile text room ≡ plan p → length p ≤ 5241
 plan-longest text room p e =
     let s = plan-source text room p e in
     omega (arith, ap length (s .written), sheet-long (s .forms) (taken-sheet text (s .forms) (s .sheet)))

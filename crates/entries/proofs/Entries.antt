@@ -12,17 +12,17 @@ use Rattle.calendar.proofs.Every.{both-true}
 use Rattle.calendar.specs.Below.{allOf}
 use Rattle.zone.proofs.Good.{by-order}
 use Rattle.sheet.specs.Form.{plain, ordinal, weekdayWords, ordinalEntry, entryOf}
-use Rattle.sheet.specs.Words.{Signed, isDigit, signedOf, pieces, eachOf}
+use Rattle.sheet.specs.Words.{Signed, isDigit, numberOf, signedOf, pieces, eachOf}
 use Rattle.words.proofs.Choices.{wordOf, prefixFree, without, one-tied}
-use Rattle.words.proofs.Ends.{End, comma, end-byte, end-stops}
+use Rattle.words.proofs.Ends.{End, comma, end-byte, end-digits, end-stops}
 use Rattle.words.proofs.Forms.{Stops, signed-tied, part-drop}
 use Rattle.words.proofs.Listing.{all-tied}
 use Rattle.words.proofs.Named.{one-found, word-tested, word-place}
 use Rattle.words.proofs.Pieces.{cut-here}
-use Rattle.words.proofs.Tied.{whole-none, whole-all, whole-part, made, Tied, tied-made, tied-by, tied-none}
-use Rattle.words.specs.Answers.{signedRead, oneAt}
-use Rattle.words.specs.Reads.{digitsIn, startsWith, signedAt}
-use Rattle.entries.specs.Lists.{entryRead, daysRead, numbersRead}
+use Rattle.words.proofs.Tied.{whole-none, whole-all, whole-part, made, Tied, tied-made, tied-by, tied-none, number-tied}
+use Rattle.words.specs.Answers.{numberRead, signedRead, oneAt}
+use Rattle.words.specs.Reads.{digitsIn, startsWith, numberAt, signedAt}
+use Rattle.entries.specs.Lists.{entryRead, daysRead, listRead, numbersRead, monthsRead}
 use Rattle.entries.proofs.Places.{entry-plain, entry-ordinal, entry-not}
 
 -- ---- two bytes, of which the first is no digit and no sign
@@ -235,6 +235,11 @@ module _ (s : List ℕ) (at : ℕ) (p tail : List ℕ) (here : drop at s ≡ p +
   days-tied = all-tied s (entryRead s) 44 entryOf End comma (entry-tied s) at p tail here ends other
 
   pub numbers-tied : Tied (eachOf signedOf (pieces 44 p)) (numbersRead s at) at (at + length p)
-  unfolding numbersRead
+  unfolding numbersRead listRead
   numbers-tied =
       all-tied s (λ (e : ℕ). signedRead (signedAt s e)) 44 signedOf End comma (λ at p tail here ends. signed-tied s at tail (end-stops ends) p here) at p tail here ends other
+
+  pub months-tied : Tied (eachOf numberOf (pieces 44 p)) (monthsRead s at) at (at + length p)
+  unfolding monthsRead
+  months-tied =
+      all-tied s (λ (e : ℕ). numberRead (numberAt s e)) 44 numberOf End comma (λ at p tail here ends. number-tied s at p tail here (end-digits ends)) at p tail here ends other

@@ -5,3 +5,4 @@ pub mod Setting
 pub mod Marking
 pub mod Answers
 pub mod Listed
+pub mod Months

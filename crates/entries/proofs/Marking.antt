@@ -15,18 +15,18 @@ use Rattle.framed.proofs.Goods.{weekdayWritten}
 use Rattle.framed.proofs.Listed.{anything}
 use Rattle.framed.proofs.Ordinals.{ordinal-mask}
 use Rattle.framed.proofs.Passing.{all-anything}
-use Rattle.framed.specs.Framed.{endsOf, isPlain, isOrdinal, ordinalsOf}
+use Rattle.framed.specs.Framed.{isPlain, isOrdinal, ordinalsOf}
 use Rattle.masks.proofs.Bits.{bit-of-quotient, bit-of-rest}
 use Rattle.masks.proofs.MaskFroms.{mask-from-same, mask-from-below, bit-in-mask, bit-above-mask, own-mask}
 use Rattle.masks.specs.Masks.{bit, maskFrom}
 use Rattle.sheet.specs.Form.{Entry, plain, ordinal}
 use Rattle.sheet.specs.Parts.{isOrdinal as hasOrdinal}
-use Rattle.sheet.specs.Range.{entryInRange, dayNumberInRange}
+use Rattle.sheet.specs.Range.{entryInRange}
 use Rattle.sheet.specs.Words.{Signed}
 use Rattle.words.specs.Lists.{overAll}
 use Rattle.zone.proofs.Good.{by-order}
 use Rattle.entries.specs.Marks.{ordinalBit, withPlain, withOrdinal, withNumber}
-use Rattle.entries.specs.Lists.{numbersGiven, weekdaysGiven}
+use Rattle.entries.specs.Lists.{listGiven, weekdaysGiven}
 use Rattle.entries.specs.declared.numbers.Numbers.{Numbers}
 use Rattle.entries.specs.declared.weekdays.Weekdays.{Weekdays}
 use Rattle.entries.proofs.Setting.{setOne, isAt, Between, setAll, set-mask}
@@ -50,80 +50,83 @@ some-between low high n false h = record { between = λ k e. let z : _≡_ {A = 
 abbrev signIs : Bool → Bool → Bool
 signIs minus m = cond minus m (not m)
 
--- ---- numbers
-abbrev pub takeNumber : Numbers → Signed → Numbers
-takeNumber m n = withNumber m (n .minus) (n .number)
-
+-- ---- numbers of 1 to `most`
 abbrev pub noNumbers : Numbers
 noNumbers = record { given = true; good = true; front = 0; back = 0 }
 
--- the bit that a number sets at one end
-numberPlace : Bool → Signed → Option ℕ
-numberPlace minus n = cond (within 1 31 (n .number) && signIs minus (n .minus)) (some (n .number)) none
+module _ (most : ℕ) where
+  abbrev pub takeNumber : Numbers → Signed → Numbers
+  takeNumber m n = withNumber most m (n .minus) (n .number)
 
-number-step : (m : Numbers) (n : Signed) → takeNumber m n
-    ≡ record { given = m .given; good = m .good && dayNumberInRange n; front = setOne (m .front) (numberPlace false n); back = setOne (m .back) (numberPlace true n) }
-unfolding withNumber numberPlace
-number-step m n = by-cases (within 1 31 (n .number)) (n .minus)
-  where
-    by-cases : (b sign : Bool)
-        → cond {A = Numbers} b
-        (cond sign (record { given = m .given; good = m .good; front = m .front; back = setOne (m .back) (some (n .number)) })
-        (record { given = m .given; good = m .good; front = setOne (m .front) (some (n .number)); back = m .back }))
-        (record { given = m .given; good = false; front = m .front; back = m .back })
-        ≡ record {
-          given = m .given;
-          good = m .good && b;
-          front = setOne (m .front) (cond (b && signIs false sign) (some (n .number)) none);
-          back = setOne (m .back) (cond (b && signIs true sign) (some (n .number)) none);
-        }
-    by-cases true true = rw (and-true (m .good)) refl
-    by-cases true false = rw (and-true (m .good)) refl
-    by-cases false sign = rw (and-false (m .good)) refl
+  abbrev inRange : Signed → Bool
+  inRange n = within 1 most (n .number)
 
-numbers-over : (m : Numbers) (ns : List Signed) → overAll takeNumber m ns
-    ≡ record { given = m .given; good = m .good && allOf dayNumberInRange ns; front = setAll (numberPlace false) (m .front) ns; back = setAll (numberPlace true) (m .back) ns }
-unfolding overAll
-numbers-over m [] = rw (and-true (m .good)) refl
-numbers-over m (n ∷ ns) =
-    numbers-over (takeNumber m n) ns ∙ rw (number-step m n, and-assoc (m .good) (dayNumberInRange n) (allOf dayNumberInRange ns)) refl
+  -- the bit that a number sets at one end
+  numberPlace : Bool → Signed → Option ℕ
+  numberPlace minus n = cond (inRange n && signIs minus (n .minus)) (some (n .number)) none
 
-module _ (minus : Bool) where
-  number-between : (n : Signed) → Between 1 32 (numberPlace minus n)
-  unfolding numberPlace
-  number-between n =
-      some-between 1 32 (n .number) (within 1 31 (n .number) && signIs minus (n .minus)) (λ e. let r = within-range 1 31 (n .number) (both-true (within 1 31 (n .number)) _ e .0) in (omega (arith, r), omega (arith, r)))
-
-  number-at : (i : ℕ) → 1 ≤ i → i < 32 → (n : Signed) → isAt i (numberPlace minus n) ≡ signedAs minus i n
-  unfolding numberPlace
-  number-at i l h n = by-same (eqb (n .number) i) refl
+  number-step : (m : Numbers) (n : Signed) → takeNumber m n
+      ≡ record { given = m .given; good = m .good && inRange n; front = setOne (m .front) (numberPlace false n); back = setOne (m .back) (numberPlace true n) }
+  unfolding withNumber numberPlace
+  number-step m n = by-cases (inRange n) (n .minus)
     where
-      by-sign : (s : Bool) → n .number ≡ i → isAt i (cond s (some (n .number)) none) ≡ (s && true)
-      by-sign true e = eq-eqb i (n .number) (sym e)
-      by-sign false e = refl
+      by-cases : (b sign : Bool)
+          → cond {A = Numbers} b
+          (cond sign (record { given = m .given; good = m .good; front = m .front; back = setOne (m .back) (some (n .number)) })
+          (record { given = m .given; good = m .good; front = setOne (m .front) (some (n .number)); back = m .back }))
+          (record { given = m .given; good = false; front = m .front; back = m .back })
+          ≡ record {
+            given = m .given;
+            good = m .good && b;
+            front = setOne (m .front) (cond (b && signIs false sign) (some (n .number)) none);
+            back = setOne (m .back) (cond (b && signIs true sign) (some (n .number)) none);
+          }
+      by-cases true true = rw (and-true (m .good)) refl
+      by-cases true false = rw (and-true (m .good)) refl
+      by-cases false sign = rw (and-false (m .good)) refl
 
-      by-test : (t : Bool) → (n .number ≡ i → ⊥) → isAt i (cond t (some (n .number)) none) ≡ false
-      by-test true d = ne-eqb i (n .number) (λ e. d (sym e))
-      by-test false d = refl
+  numbers-over : (m : Numbers) (ns : List Signed) → overAll takeNumber m ns
+      ≡ record { given = m .given; good = m .good && allOf inRange ns; front = setAll (numberPlace false) (m .front) ns; back = setAll (numberPlace true) (m .back) ns }
+  unfolding overAll
+  numbers-over m [] = rw (and-true (m .good)) refl
+  numbers-over m (n ∷ ns) =
+      numbers-over (takeNumber m n) ns ∙ rw (number-step m n, and-assoc (m .good) (inRange n) (allOf inRange ns)) refl
 
-      by-same : (b : Bool) → eqb (n .number) i ≡ b
-          → isAt i (cond (within 1 31 (n .number) && signIs minus (n .minus)) (some (n .number)) none) ≡ (signIs minus (n .minus) && eqb (n .number) i)
-      by-same true e =
-          let v : n .number ≡ i = eqb-true (n .number) i e in
-          rw (e, le-leb 1 (n .number) (omega arith), le-leb (n .number) 31 (omega arith)) (by-sign (signIs minus (n .minus)) v)
-      by-same false e =
-          rw (e, and-false (signIs minus (n .minus)))
-          (by-test (within 1 31 (n .number) && signIs minus (n .minus)) (eqb-false (n .number) i e))
+  module _ (minus : Bool) where
+    number-between : (n : Signed) → Between 1 (1 + most) (numberPlace minus n)
+    unfolding numberPlace
+    number-between n =
+        some-between 1 (1 + most) (n .number) (inRange n && signIs minus (n .minus)) (λ e. let r = within-range 1 most (n .number) (both-true (inRange n) _ e .0) in (omega (arith, r), omega (arith, r)))
 
-  numbers-end : (ns : List Signed) → setAll (numberPlace minus) 0 ns ≡ maskFrom (λ i. anyOf (signedAs minus i) ns) 31 1
-  numbers-end ns =
-      set-mask (numberPlace minus) 1 32 (omega arith) number-between 31 refl ns
-      ∙ mask-from-same (λ i. anyOf (λ n. isAt i (numberPlace minus n)) ns) (λ i. anyOf (signedAs minus i) ns) 31 1
-      (λ i l h. any-same anything (λ n. isAt i (numberPlace minus n)) (signedAs minus i) (λ n t. number-at i l h n) ns (all-anything ns))
+    number-at : (i : ℕ) → 1 ≤ i → i < 1 + most → (n : Signed) → isAt i (numberPlace minus n) ≡ signedAs minus i n
+    unfolding numberPlace
+    number-at i l h n = by-same (eqb (n .number) i) refl
+      where
+        by-sign : (s : Bool) → n .number ≡ i → isAt i (cond s (some (n .number)) none) ≡ (s && true)
+        by-sign true e = eq-eqb i (n .number) (sym e)
+        by-sign false e = refl
 
-pub numbers-marked : (ns : List Signed) → overAll takeNumber noNumbers ns ≡ numbersGiven ns
-unfolding numbersGiven endsOf
-numbers-marked ns = numbers-over noNumbers ns ∙ rw (numbers-end false ns, numbers-end true ns) refl
+        by-test : (t : Bool) → (n .number ≡ i → ⊥) → isAt i (cond t (some (n .number)) none) ≡ false
+        by-test true d = ne-eqb i (n .number) (λ e. d (sym e))
+        by-test false d = refl
+
+        by-same : (b : Bool) → eqb (n .number) i ≡ b
+            → isAt i (cond (inRange n && signIs minus (n .minus)) (some (n .number)) none) ≡ (signIs minus (n .minus) && eqb (n .number) i)
+        by-same true e =
+            let v : n .number ≡ i = eqb-true (n .number) i e in
+            rw (e, le-leb 1 (n .number) (omega arith), le-leb (n .number) most (omega arith)) (by-sign (signIs minus (n .minus)) v)
+        by-same false e =
+            rw (e, and-false (signIs minus (n .minus))) (by-test (inRange n && signIs minus (n .minus)) (eqb-false (n .number) i e))
+
+    numbers-end : most < 64 → (ns : List Signed) → setAll (numberPlace minus) 0 ns ≡ maskFrom (λ i. anyOf (signedAs minus i) ns) most 1
+    numbers-end fits ns =
+        set-mask (numberPlace minus) 1 (1 + most) (omega arith) number-between most refl ns
+        ∙ mask-from-same (λ i. anyOf (λ n. isAt i (numberPlace minus n)) ns) (λ i. anyOf (signedAs minus i) ns) most 1
+        (λ i l h. any-same anything (λ n. isAt i (numberPlace minus n)) (signedAs minus i) (λ n t. number-at i l h n) ns (all-anything ns))
+
+  pub numbers-marked : most < 64 → (ns : List Signed) → overAll takeNumber noNumbers ns ≡ listGiven most ns
+  unfolding listGiven
+  numbers-marked fits ns = numbers-over noNumbers ns ∙ rw (numbers-end false fits ns, numbers-end true fits ns) refl
 
 -- ---- weekdays
 abbrev pub takeEntry : Weekdays → Entry → Weekdays

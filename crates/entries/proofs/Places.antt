@@ -1,17 +1,19 @@
 -- A list of a rule ends no earlier than it begins, and its weekdays are below 7, whatever the line.
+use mathlib.Core.Bool.{Bool, true, false}
 use mathlib.Core.List.{List}
 use mathlib.Core.Option.{Option, none, some}
-use mathlib.Core.Path.{_≡_, refl}
+use mathlib.Core.Path.{_≡_, refl, ap}
 use Prim.Native.Nat.{ℕ, _+_, _<_, _≤_}
 use native.Mathlib.Omega.{arith}
 use lib.ListN.{length}
 use Rattle.framed.proofs.Ordinals.{entryWeekday}
 use Rattle.sheet.specs.Form.{Entry, plain, ordinal, weekdayWords}
 use Rattle.sheet.specs.Words.{Signed}
-use Rattle.words.proofs.Afters.{Reads, read-none, read-some, read-made, one-after, one-below, signed-after, Every, list-read}
-use Rattle.words.specs.Answers.{madeRead, signedRead, oneAt}
-use Rattle.words.specs.Reads.{signedAt}
-use Rattle.entries.specs.Lists.{entryRead, daysRead, numbersRead}
+use Rattle.words.proofs.Afters.{Reads, read-none, read-some, read-made, one-after, one-below, number-after, signed-after, Every, list-read}
+use Rattle.words.specs.Answers.{madeRead, numberRead, signedRead, oneAt}
+use Rattle.words.specs.Reads.{numberAt, withSign, signedAt}
+use Rattle.words.specs.declared.cursor.Number.{Number}
+use Rattle.entries.specs.Lists.{entryRead, daysRead, numberIn, listRead, numbersRead, monthsRead}
 
 -- ---- an entry, by what stands there
 module _ (s : List ℕ) (at : ℕ) where
@@ -68,6 +70,21 @@ pub days-weekdays : (s : List ℕ) (at : ℕ) (es : List Entry) (e : ℕ) → da
 days-weekdays s at es e q = days-read s at es e q .1
 
 pub numbers-after : (s : List ℕ) (at : ℕ) (ns : List Signed) (e : ℕ) → numbersRead s at ≡ some (ns, e) → at ≤ e
-unfolding numbersRead
+unfolding numbersRead listRead
 numbers-after s at ns e q =
     list-read (λ n. Unit {0}) (λ (f : ℕ). signedRead (signedAt s f)) 44 s (λ f x e q. (signed-after s f x e q, tt)) (length s + 1) at ns e q .0
+
+pub months-after : (s : List ℕ) (at : ℕ) (ms : List ℕ) (e : ℕ) → monthsRead s at ≡ some (ms, e) → at ≤ e
+unfolding monthsRead
+months-after s at ms e q =
+    list-read (λ n. Unit {0}) (λ (f : ℕ). numberRead (numberAt s f)) 44 s (λ f x e q. (omega (arith, number-after s f x e q), tt)) (length s + 1) at ms e q .0
+
+-- a number where signs may stand or not
+pub number-in-after : (signs : Bool) (s : List ℕ) (at : ℕ) (x : Signed) (e : ℕ) → signedRead (numberIn signs s at) ≡ some (x, e) → at ≤ e
+number-in-after true s at = signed-after s at
+number-in-after false s at = by-number (numberAt s at) refl
+  where
+    by-number : (n : Number) → numberAt s at ≡ n → Reads (λ x e. at ≤ e) (signedRead (withSign false n))
+    by-number (Number.Is v c) q =
+        read-some (λ x e. at ≤ e) (record { minus = false; number = v }) (c .at) (omega (arith, number-after s at v (c .at) (ap numberRead q)))
+    by-number Number.Not q = read-none (λ (x : Signed) (e : ℕ). at ≤ e)

@@ -1,20 +1,22 @@
--- The lists of a rule at a place: entries with their weekdays, and signed numbers.
-use mathlib.Core.Bool.{true, false}
+-- The lists of a rule at a place: entries with their weekdays, signed numbers, and months.
+use mathlib.Core.Bool.{Bool, true, false, cond, not, _&&_}
 use mathlib.Core.List.{List}
 use mathlib.Core.Option.{Option, none, some}
 use Prim.Native.Nat.{ℕ, _+_}
+use lib.Dec.{eqb}
 use lib.ListN.{length}
-use Rattle.calendar.specs.Below.{anyOf, allOf}
-use Rattle.framed.specs.Framed.{endsOf, isPlain, ordinalsOf}
+use Rattle.calendar.specs.Below.{within, anyOf, allOf}
+use Rattle.framed.specs.Framed.{endsOf, isPlain, ordinalsOf, monthMask}
 use Rattle.lines.specs.Bytes.{byte}
 use Rattle.masks.specs.Masks.{maskFrom}
 use Rattle.sheet.specs.Form.{Entry, plain, ordinal, weekdayWords}
 use Rattle.sheet.specs.Parts.{isOrdinal as hasOrdinal}
-use Rattle.sheet.specs.Range.{entryInRange, dayNumberInRange}
+use Rattle.sheet.specs.Range.{entryInRange, dayNumberInRange, monthInRange}
 use Rattle.sheet.specs.Words.{Signed}
-use Rattle.words.specs.Answers.{madeRead, signedRead, oneAt}
+use Rattle.words.specs.Answers.{madeRead, numberRead, signedRead, oneAt}
 use Rattle.words.specs.Lists.{listAt}
-use Rattle.words.specs.Reads.{cursor, signedAt}
+use Rattle.words.specs.Reads.{cursor, numberAt, withSign, signedAt}
+use Rattle.words.specs.declared.cursor.Signed.{Signed as ReadSigned}
 use Rattle.entries.specs.declared.entry.Entry.{Entry as ReadEntry}
 use Rattle.entries.specs.declared.numbers.Listed.{Listed}
 use Rattle.entries.specs.declared.numbers.Numbers.{Numbers}
@@ -43,10 +45,21 @@ entryAs (some (ordinal n w, e)) = ReadEntry.Ordinal (n .minus) (n .number) w (cu
 unfoldable pub daysRead : List ℕ → ℕ → Option (List Entry × ℕ)
 daysRead s at = listAt (entryRead s) (byte ",") s (length s + 1) at
 
-unfoldable pub numbersRead : List ℕ → ℕ → Option (List Signed × ℕ)
-numbersRead s at = listAt (λ (e : ℕ). signedRead (signedAt s e)) (byte ",") s (length s + 1) at
+-- a number with a sign or none where signs may stand, else one without
+abbrev pub numberIn : Bool → List ℕ → ℕ → ReadSigned
+numberIn true s at = signedAt s at
+numberIn false s at = withSign false (numberAt s at)
 
--- the entries of BYDAY, and the numbers of BYMONTHDAY or BYSETPOS, as masks
+unfoldable pub listRead : Bool → List ℕ → ℕ → Option (List Signed × ℕ)
+listRead signs s at = listAt (λ (e : ℕ). signedRead (numberIn signs s e)) (byte ",") s (length s + 1) at
+
+unfoldable pub numbersRead : List ℕ → ℕ → Option (List Signed × ℕ)
+numbersRead s at = listRead true s at
+
+unfoldable pub monthsRead : List ℕ → ℕ → Option (List ℕ × ℕ)
+monthsRead s at = listAt (λ (e : ℕ). numberRead (numberAt s e)) (byte ",") s (length s + 1) at
+
+-- the entries of BYDAY, and the numbers of BYMONTHDAY, BYSETPOS or BYMONTH, as masks; no month is from the end
 unfoldable pub weekdaysGiven : List Entry → Weekdays
 weekdaysGiven es =
     record {
@@ -61,10 +74,28 @@ weekdaysGiven es =
 unfoldable pub numbersGiven : List Signed → Numbers
 numbersGiven ns = record { given = true; good = allOf dayNumberInRange ns; front = endsOf ns .front; back = endsOf ns .back }
 
+unfoldable pub monthsGiven : List ℕ → Numbers
+monthsGiven ms = record { given = true; good = allOf monthInRange ms; front = monthMask ms; back = 0 }
+
+-- signed numbers of 1 to `most`
+unfoldable pub listGiven : ℕ → List Signed → Numbers
+listGiven most ns =
+    let mask : Bool → ℕ = λ minus. maskFrom (λ i. anyOf (λ s. cond minus (s .minus) (not (s .minus)) && eqb (s .number) i) ns) most 1 in
+    record { given = true; good = allOf (λ s. within 1 most (s .number)) ns; front = mask false; back = mask true }
+
 abbrev pub daysAs : Option (List Entry × ℕ) → Days
 daysAs none = Days.Not
 daysAs (some r) = Days.Is (weekdaysGiven (r .0)) (cursor (r .1))
 
+abbrev pub listedBy : {A : Type 0} → (List A → Numbers) → Option (List A × ℕ) → Listed
+listedBy given none = Listed.Not
+listedBy given (some r) = Listed.Is (given (r .0)) (cursor (r .1))
+
+abbrev pub listAs : ℕ → Option (List Signed × ℕ) → Listed
+listAs most = listedBy (listGiven most)
+
 abbrev pub numbersAs : Option (List Signed × ℕ) → Listed
-numbersAs none = Listed.Not
-numbersAs (some r) = Listed.Is (numbersGiven (r .0)) (cursor (r .1))
+numbersAs = listedBy numbersGiven
+
+abbrev pub monthsAs : Option (List ℕ × ℕ) → Listed
+monthsAs = listedBy monthsGiven

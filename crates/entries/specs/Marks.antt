@@ -27,9 +27,9 @@ entryMarks m (Entry.Plain w c) = Days.Is (withPlain m w) c
 entryMarks m (Entry.Ordinal minus n w c) = Days.Is (withOrdinal m minus n w) c
 entryMarks m Entry.Not = Days.Not
 
-unfoldable pub withNumber : Numbers → Bool → ℕ → Numbers
-withNumber m minus n =
-    cond (within 1 31 n)
+unfoldable pub withNumber : ℕ → Numbers → Bool → ℕ → Numbers
+withNumber most m minus n =
+    cond (within 1 most n)
     (cond minus (record { given = m .given; good = m .good; front = m .front; back = withBit (m .back) n })
     (record { given = m .given; good = m .good; front = withBit (m .front) n; back = m .back }))
     (record { given = m .given; good = false; front = m .front; back = m .back })

@@ -1,4 +1,4 @@
-// The lists of a rule: the entries of BYDAY, and the numbers of BYMONTHDAY and BYSETPOS, as masks.
+// The lists of a rule: the entries of BYDAY, and the numbers of BYMONTHDAY, BYSETPOS and BYMONTH, as masks.
 mod entry;
 pub mod numbers;
 pub mod weekdays;

@@ -8,11 +8,12 @@ use lib.Dec.{eqb}
 use Rattle.calendar.proofs.Windows.{local-date-holds, month-days-range, month-first-next}
 use Rattle.calendar.specs.Below.{countFrom}
 use Rattle.calendar.specs.Calendar.{weekdayOf}
-use Rattle.calendar.specs.Window.{monthFirst, monthDays, localDate, localWeekday, fromEnd, windowDays}
+use Rattle.calendar.specs.Window.{monthFirst, localDate, localWeekday, fromEnd, windowDays}
 use Rattle.frames.proofs.MonthDays.{first-at-most}
 use Rattle.frames.specs.Rule.{ordinalOf}
-use Rattle.masks.proofs.Counts.{count-same, count-at-most}
-use Rattle.sheet.specs.Meaning.{upTo, fromOn}
+use Rattle.masks.proofs.Counts.{count-same}
+use Rattle.sheet.specs.Form.{Frequency, monthly}
+use Rattle.sheet.specs.Meaning.{firstMonth, pastMonth, placeIn}
 use Rattle.zone.proofs.Good.{by-order}
 
 abbrev pub isWeekday : ℕ → ℕ → Bool
@@ -56,16 +57,20 @@ unfolding fromEnd
 place-high true d h = let a = local-date-holds d h in omega (arith, a .low, month-days-range (localDate d .month) (a .last) .1)
 place-high false d h = let a = local-date-holds d h in omega (arith, a .high, month-days-range (localDate d .month) (a .last) .1)
 
--- the days of the month up to d, or from d on, that pass a test
-abbrev pub counted : Bool → (ℕ → Bool) → ℕ → ℕ
-counted minus test d = cond minus (fromOn test d) (upTo test d)
+-- the days of d's month up to d, and from d on
+days-up : (d : ℕ) → d < windowDays → d + 1 - monthFirst (localDate d .month) ≡ localDate d .day
+days-up d h = let a = local-date-holds d h in omega (arith, a .whole, a .low)
+
+days-on : (d : ℕ) → d < windowDays → monthFirst (localDate d .month + 1) - d ≡ fromEnd d
+unfolding fromEnd
+days-on d h = let a = local-date-holds d h in omega (arith, a .whole, a .low, a .high, month-first-next (localDate d .month) (a .last))
 
 pub ordinal-counted : (minus : Bool) (d w : ℕ) → d < windowDays → localWeekday d ≡ w
-    → counted minus (isWeekday w) d ≡ ordinalOf (placeOf minus d)
-ordinal-counted true d w h e = starting w (fromEnd d) d (place-low true d h) e
+    → placeIn monthly minus (isWeekday w) d ≡ ordinalOf (placeOf minus d)
+ordinal-counted true d w h e = rw (days-on d h) (starting w (fromEnd d) d (place-low true d h) e)
 ordinal-counted false d w h e =
     let a = local-date-holds d h in
-    ending w (localDate d .day) (monthFirst (localDate d .month)) (a .low) (ap localWeekday (a .whole) ∙ e)
+    rw (days-up d h) (ending w (localDate d .day) (monthFirst (localDate d .month)) (a .low) (ap localWeekday (a .whole) ∙ e))
 
 -- where d passes it, it is one of them
 pub one-counted : (test : ℕ → Bool) (k n d : ℕ) → n ≤ d → d < n + k → test d ≡ true → 1 ≤ countFrom test k n
@@ -74,25 +79,13 @@ one-counted test (suc k) n d l h t =
     by-order n d (λ b. omega (arith, one-counted test k (suc n) d (omega arith) (omega arith) t))
     (λ b. let e : test n ≡ true = ap test (omega arith) ∙ t in rw e (omega arith))
 
-pub counted-low : (minus : Bool) (test : ℕ → Bool) (d : ℕ) → d < windowDays → test d ≡ true → 1 ≤ counted minus test d
-counted-low true test d h t = one-counted test (fromEnd d) d d (omega arith) (omega (arith, place-low true d h)) t
-counted-low false test d h t =
-    let a = local-date-holds d h in
-    one-counted test (localDate d .day) (monthFirst (localDate d .month)) d (omega (arith, a .whole)) (omega (arith, a .whole, a .low)) t
-
-pub counted-high : (minus : Bool) (test : ℕ → Bool) (d : ℕ) → d < windowDays → counted minus test d ≤ 31
-counted-high true test d h = omega (arith, count-at-most test (fromEnd d) d, place-high true d h)
-counted-high false test d h = omega (arith, count-at-most test (localDate d .day) (monthFirst (localDate d .month)), place-high false d h)
-
 -- tests that agree on the window's days
-pub counted-same : (minus : Bool) (test other : ℕ → Bool) (d : ℕ) → d < windowDays → ((j : ℕ) → j < windowDays → test j ≡ other j)
-    → counted minus test d ≡ counted minus other d
-unfolding fromEnd
-counted-same true test other d h e =
-    let a = local-date-holds d h in
-    let k : ℕ = localDate d .month in
-    let last : monthFirst k + monthDays k ≤ windowDays = omega (arith, month-first-next k (a .last), first-at-most (k + 1)) in
-    count-same test other (fromEnd d) d (λ j l b. e j (omega (arith, a .whole, a .low, a .high)))
-counted-same false test other d h e =
-    let a = local-date-holds d h in
-    count-same test other (localDate d .day) (monthFirst (localDate d .month)) (λ j l b. e j (omega (arith, a .whole, a .low)))
+pub place-same : (f : Frequency) (minus : Bool) (test other : ℕ → Bool) (d : ℕ) → d < windowDays
+    → ((j : ℕ) → j < windowDays → test j ≡ other j)
+    → placeIn f minus test d ≡ placeIn f minus other d
+place-same f true test other d h e =
+    let past : ℕ = monthFirst (pastMonth f (localDate d .month)) in
+    count-same test other (past - d) d (λ j l b. e j (omega (arith, first-at-most (pastMonth f (localDate d .month)))))
+place-same f false test other d h e =
+    let first : ℕ = monthFirst (firstMonth f (localDate d .month)) in
+    count-same test other (d + 1 - first) first (λ j l b. e j (omega arith))

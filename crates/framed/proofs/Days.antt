@@ -6,19 +6,18 @@ use mathlib.Core.Path.{_≡_, refl, ap, ap₂, _∙_}
 use Prim.Native.Nat.{ℕ, _-_, _/_, _%_, _<_}
 use native.Mathlib.Omega.{arith}
 use lib.Dec.{leb, eqb}
-use Rattle.calendar.proofs.Every.{decided}
 use Rattle.calendar.specs.Window.{dayMinutes, windowDays, windowMinutes}
 use Rattle.frames.specs.Rule.{noLimit, inSet, placed, period, counts, ruleDay, ruleOccurs}
 use Rattle.frames.specs.declared.Ends.{Ends}
 use Rattle.frames.specs.declared.Rule.{Rule}
 use Rattle.masks.specs.Masks.{bit}
-use Rattle.sheet.specs.Form.{Time, Part, Frequency, daily, weekly, monthly, rule}
-use Rattle.sheet.specs.Meaning.{allows, daySet, positionHas, periodOf, occursOn, occursAt}
+use Rattle.sheet.specs.Form.{Time, Part, Frequency, daily, weekly, monthly, yearly, rule}
+use Rattle.sheet.specs.Meaning.{placeIn, allows, daySet, positionHas, periodOf, occursOn, occursAt}
 use Rattle.sheet.specs.Parts.{Given, givenOf}
 use Rattle.sheet.specs.Range.{dayNumberInRange, minuteOf, inRange}
 use Rattle.sheet.specs.Words.{Signed}
 use Rattle.framed.specs.Framed.{endsOf, ruleFrame, frequencyNumber}
-use Rattle.framed.proofs.Counted.{counted, counted-low, counted-high, counted-same}
+use Rattle.framed.proofs.Counted.{place-same}
 use Rattle.framed.proofs.Ends.{ends-hold, ends-limit}
 use Rattle.framed.proofs.Goods.{Good, givenPasses, written, rule-good}
 use Rattle.framed.proofs.Listed.{listed}
@@ -29,16 +28,23 @@ module _ (r : Rule) (d : ℕ) where
   unfolding placed
   any-place n = rw (n, placed) refl
 
-  given-place : noLimit (r .positions) ≡ false
-      → placed r d ≡ (bit (r .positions .front) (counted false (inSet r) d) || bit (r .positions .back) (counted true (inSet r) d))
+  abbrev placesHave : Frequency → (ℕ → Bool) → Ends → Bool
+  placesHave f set p = bit (p .front) (placeIn f false set d) || bit (p .back) (placeIn f true set d)
+
+  given-place : (f : Frequency) → r .frequency ≡ frequencyNumber f → noLimit (r .positions) ≡ false
+      → placed r d ≡ placesHave f (inSet r) (r .positions)
   unfolding placed
-  given-place n = rw (n, placed) refl
+  given-place daily e n = rw (n, placed, e) refl
+  given-place weekly e n = rw (n, placed, e) refl
+  given-place monthly e n = rw (n, placed, e) refl
+  given-place yearly e n = rw (n, placed, e) refl
 
 period-is : (f : Frequency) (r : Rule) → r .frequency ≡ frequencyNumber f → (d : ℕ) → period r d ≡ periodOf f d
 unfolding period
 period-is daily r e d = rw e refl
 period-is weekly r e d = rw e refl
 period-is monthly r e d = rw e refl
+period-is yearly r e d = rw e refl
 
 module _ (f : Frequency) (g : Given) (first : ℕ) (r : Rule) (a : Framed f g first r) (good : Good g) where
   counts-is : (d : ℕ) → counts r d ≡ eqb ((periodOf f d - periodOf f first) % Option·getD (g .interval) 1) 0
@@ -46,28 +52,22 @@ module _ (f : Frequency) (g : Given) (first : ℕ) (r : Rule) (a : Framed f g fi
   counts-is d = rw (period-is f r (a .frequency) d, period-is f r (a .frequency) (r .start / dayMinutes), a .start, a .interval) refl
 
   module _ (d : ℕ) (h : d < windowDays) where
-    place-is : (minus : Bool) → counted minus (inSet r) d ≡ counted minus (daySet f g first) d
-    place-is minus = counted-same minus (inSet r) (daySet f g first) d h (λ j l. in-set-is f g first r a good j l)
+    place-is : (minus : Bool) → placeIn f minus (inSet r) d ≡ placeIn f minus (daySet f g first) d
+    place-is minus = place-same f minus (inSet r) (daySet f g first) d h (λ j l. in-set-is f g first r a good j l)
 
     placed-is : (ns : Option (List Signed)) → r .positions ≡ positionsFor ns → givenPasses (listed dayNumberInRange) ns ≡ true
-        → daySet f g first d ≡ true
         → placed r d ≡ allows (positionHas f g first d) ns
     unfolding positionHas
-    placed-is none e l t = any-place r d (ap noLimit e)
-    placed-is (some ns) e l t =
+    placed-is none e l = any-place r d (ap noLimit e)
+    placed-is (some ns) e l =
         let set : ℕ → Bool = daySet f g first in
-        given-place r d (ap noLimit e ∙ ends-limit ns l)
-        ∙ ap (λ (p : Ends). bit (p .front) (counted false (inSet r) d) || bit (p .back) (counted true (inSet r) d)) e
+        given-place r d f (a .frequency) (ap noLimit e ∙ ends-limit ns l)
+        ∙ ap (placesHave r d f (inSet r)) e
         ∙ ap₂ (λ (x y : ℕ). bit (endsOf ns .front) x || bit (endsOf ns .back) y) (place-is false) (place-is true)
-        ∙ ends-hold (counted false set d) (counted true set d) ns (counted-low false set d h t) (counted-high false set d h)
-        (counted-low true set d h t) (counted-high true set d h)
+        ∙ ends-hold (placeIn f false set d) (placeIn f true set d) ns l
 
     set-placed : (inSet r d && placed r d) ≡ (daySet f g first d && allows (positionHas f g first d) (g .positions))
-    set-placed =
-        rw (in-set-is f g first r a good d h)
-        (decided (daySet f g first d)
-        (λ (t : daySet f g first d ≡ true). rw t (placed-is (g .positions) (a .positions) (good .positions) t))
-        (λ (n : daySet f g first d ≡ false). rw n refl))
+    set-placed = ap₂ _&&_ (in-set-is f g first r a good d h) (placed-is (g .positions) (a .positions) (good .positions))
 
     pub day-is : ruleDay r d ≡ occursOn f g first d
     unfolding ruleDay occursOn
@@ -77,7 +77,7 @@ module _ (f : Frequency) (g : Given) (first : ℕ) (r : Rule) (a : Framed f g fi
 pub frame-framed : (g : Given) (start : ℕ) → Framed (Option·getD (g .frequency) daily) g (start / dayMinutes) (ruleFrame g start)
 unfolding ruleFrame
 frame-framed g start =
-    record { frequency = refl; interval = refl; start = refl; weekdays = refl; days = refl; ordinals = refl; positions = refl }
+    record { frequency = refl; interval = refl; start = refl; weekdays = refl; days = refl; ordinals = refl; positions = refl; months = refl }
 
 module _ (t : Time) (ps : List Part) (inside : inRange (rule t ps) ≡ true) (w : written (rule t ps) ≡ true) where
   pub rule-day : (d : ℕ) → d < windowDays

@@ -9,7 +9,7 @@ use lib.ListN.{length, take, drop}
 use Rattle.calendar.proofs.Every.{decided}
 use Rattle.calendar.specs.Below.{allOf}
 use Rattle.lines.specs.Bytes.{bytes, byte}
-use Rattle.sheet.specs.Form.{Time, timeOf, Shift, shiftOf, Element, elementOf, Field, star, list, fieldOf, ordinalEntry, weekdayWords, entryOf, Part, interval, count, until, byDay, byMonthDay, bySetPos, frequencyAt, frequencyWords, partWords, partBy, valueOf, named, partOf, Form, zone, extra, except, formBy, changeBy, changeOf, cronOf, ruleBy, ruleOf, tagged, formOf}
+use Rattle.sheet.specs.Form.{Time, timeOf, Shift, shiftOf, Element, elementOf, Field, star, list, fieldOf, ordinalEntry, weekdayWords, entryOf, Part, interval, count, until, byDay, byMonthDay, bySetPos, byMonth, frequencyAt, frequencyWords, partWords, partBy, valueOf, named, partOf, Form, zone, extra, except, formBy, changeBy, changeOf, cronOf, ruleBy, ruleOf, tagged, formOf}
 use Rattle.sheet.specs.Words.{sameBytes, wordIn, numberOf, Signed, signedOf, pieces, eachOf}
 use Rattle.framed.proofs.Goods.{givenPasses, weekdayWritten, partWritten, fieldWritten, written}
 use Rattle.framed.proofs.Listed.{anything, listed}
@@ -45,7 +45,9 @@ simple-written part o w = part-written anything part o (λ a e. w a) (anything-p
 frequency-written : (k : ℕ) → givenPasses partWritten (frequencyAt k) ≡ true
 unfolding frequencyAt
 frequency-written k =
-    cond-passes partWritten (eqb k 0) _ _ refl (cond-passes partWritten (eqb k 1) _ _ refl (cond-passes partWritten (eqb k 2) _ _ refl refl))
+    cond-passes partWritten (eqb k 0) _ _ refl
+    (cond-passes partWritten (eqb k 1) _ _ refl
+    (cond-passes partWritten (eqb k 2) _ _ refl (cond-passes partWritten (eqb k 3) _ _ refl refl)))
 
 list-written : {A : Type 0} (test : A → Bool) (form : List ℕ → Option A) (part : List A → Part) (v : List ℕ)
     → ((s : List ℕ) → givenPasses test (form s) ≡ true)
@@ -62,7 +64,8 @@ value-written k v =
     (cond-passes partWritten (eqb k 3) _ _ (simple-written until (timeOf v) (λ t. refl))
     (cond-passes partWritten (eqb k 4) _ _ (list-written weekdayWritten entryOf byDay v entry-written (λ es e. e))
     (cond-passes partWritten (eqb k 5) _ _ (list-written anything signedOf byMonthDay v (λ s. anything-passes (signedOf s)) (λ ns e. e))
-    (cond-passes partWritten (eqb k 6) _ _ (list-written anything signedOf bySetPos v (λ s. anything-passes (signedOf s)) (λ ns e. e)) refl))))))
+    (cond-passes partWritten (eqb k 6) _ _ (list-written anything signedOf bySetPos v (λ s. anything-passes (signedOf s)) (λ ns e. e))
+    (cond-passes partWritten (eqb k 7) _ _ (list-written anything numberOf byMonth v (λ s. anything-passes (numberOf s)) (λ ns e. e)) refl)))))))
 
 named-written : (ps : List (List ℕ)) → givenPasses partWritten (named ps) ≡ true
 unfolding named

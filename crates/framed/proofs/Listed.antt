@@ -13,6 +13,10 @@ abbrev pub listed : {A : Type 0} → (A → Bool) → List A → Bool
 listed test [] = false
 listed test (x ∷ xs) = test x && allOf test xs
 
+pub all-listed : {A : Type 0} (test : A → Bool) (xs : List A) → listed test xs ≡ true → allOf test xs ≡ true
+all-listed test [] e = refl
+all-listed test (x ∷ xs) e = e
+
 -- some element passes one test, or some the other
 module _ {A : Type 0} (one other both : A → Bool) (same : (x : A) → (one x || other x) ≡ both x) where
   pub any-either : (xs : List A) → (anyOf one xs || anyOf other xs) ≡ anyOf both xs

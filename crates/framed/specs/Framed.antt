@@ -12,8 +12,8 @@ use Rattle.frames.specs.declared.Ends.{Ends}
 use Rattle.frames.specs.declared.Rule.{Rule}
 use Rattle.masks.specs.Masks.{maskFrom}
 use Rattle.plan.specs.declared.Frame.{Frame}
-use Rattle.sheet.specs.Form.{Time, Field, Entry, plain, ordinal, Frequency, daily, weekly, monthly, Form, zone, change, cron, rule, extra, except}
-use Rattle.sheet.specs.Meaning.{fieldHas, restricted, occursOn}
+use Rattle.sheet.specs.Form.{Time, Field, Entry, plain, ordinal, Frequency, daily, weekly, monthly, yearly, Form, zone, change, cron, rule, extra, except}
+use Rattle.sheet.specs.Meaning.{fieldHas, restricted, monthNumber, occursOn}
 use Rattle.sheet.specs.Parts.{Given, givenOf}
 use Rattle.sheet.specs.Range.{minuteOf, instantOfTime, offsetOfShift}
 use Rattle.sheet.specs.Words.{Signed}
@@ -55,20 +55,43 @@ ordinalsOf minus es =
 abbrev pub nothing : Ends
 nothing = record { front = 0; back = 0 }
 
--- "Defaults of rule 2 are filled in": the start's weekday of a weekly rule, the start's day of month of a monthly one
+-- T-01: "a month mask of 2 bytes at its end, zero for no limit .., bits 1 to 12 only"
+unfoldable pub monthMask : List ℕ → ℕ
+monthMask ms = maskFrom (λ n. anyOf (eqb n) ms) 12 1
+
+-- "Defaults of rule 2 are filled in": the start's weekday of a weekly rule, the start's day of month of a monthly one;
+-- T-01: "The defaults of YEARLY are filled in": the start's day of month, and without BYMONTH the start's month
 unfoldable pub weekdaysOf : Frequency → Option (List Entry) → ℕ → ℕ
 weekdaysOf f (some es) first = maskFrom (λ w. anyOf (isPlain w) es) 7 0
 weekdaysOf daily none first = 0
 weekdaysOf weekly none first = 2 ^ localWeekday first
 weekdaysOf monthly none first = 0
+weekdaysOf yearly none first = 0
+
+abbrev pub daysOr : Option (List Entry) → Option (List Signed) → ℕ → Ends
+daysOr es (some ns) first = endsOf ns
+daysOr (some es) none first = nothing
+daysOr none none first = record { front = 2 ^ localDate first .day; back = 0 }
 
 unfoldable pub daysOf : Frequency → Option (List Entry) → Option (List Signed) → ℕ → Ends
 daysOf daily es none first = nothing
 daysOf daily es (some ns) first = endsOf ns
 daysOf weekly es ns first = nothing
-daysOf monthly es (some ns) first = endsOf ns
-daysOf monthly (some es) none first = nothing
-daysOf monthly none none first = record { front = 2 ^ localDate first .day; back = 0 }
+daysOf monthly es ns first = daysOr es ns first
+daysOf yearly es ns first = daysOr es ns first
+
+abbrev pub monthLimit : Option (List ℕ) → ℕ
+monthLimit none = 0
+monthLimit (some ms) = monthMask ms
+
+unfoldable pub monthsOf : Frequency → Option (List Entry) → Option (List Signed) → Option (List ℕ) → ℕ → ℕ
+monthsOf daily es ns ms first = monthLimit ms
+monthsOf weekly es ns ms first = monthLimit ms
+monthsOf monthly es ns ms first = monthLimit ms
+monthsOf yearly none none none first = 2 ^ monthNumber first
+monthsOf yearly none none (some ms) first = monthMask ms
+monthsOf yearly none (some ns) ms first = monthLimit ms
+monthsOf yearly (some es) ns ms first = monthLimit ms
 
 -- "the COUNT-th occurrence's local minute, or 52,595,999 if .. fewer occurrences exist": day d at the start's time, and the COUNT-th of the days that pass a test
 abbrev pub minuteOn : ℕ → ℕ → ℕ
@@ -90,6 +113,7 @@ abbrev pub frequencyNumber : Frequency → ℕ
 frequencyNumber daily = 1
 frequencyNumber weekly = 2
 frequencyNumber monthly = 3
+frequencyNumber yearly = 4
 
 unfoldable pub ruleFrame : Given → ℕ → Rule
 ruleFrame g start =
@@ -104,6 +128,7 @@ ruleFrame g start =
       days = daysOf f (g .days) (g .monthDays) first;
       ordinals = elim (g .days) [ none ↦ nothing | some es ↦ record { front = ordinalsOf false es; back = ordinalsOf true es } ];
       positions = elim (g .positions) [ none ↦ nothing | some ns ↦ endsOf ns ];
+      months = monthsOf f (g .days) (g .monthDays) (g .months) first;
     }
 
 unfoldable pub frameOf : Form → Frame

@@ -3,6 +3,7 @@ pub mod MonthDays
 pub mod MonthSets
 pub mod Flags
 pub mod Positions
+pub mod YearSets
 pub mod Weeks
 pub mod Allowed
 pub mod Swaps

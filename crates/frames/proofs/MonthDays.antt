@@ -12,7 +12,7 @@ use Rattle.calendar.specs.Window.{monthFirst, monthDays, localDate, localWeekda
 use Rattle.calendar.specs.declared.year.MonthDay.{MonthDay}
 use Rattle.frames.specs.Months.{dayOf, InMonth}
 
-past-window : (k : ℕ) → 1200 ≤ k → monthDays k ≡ 0
+pub past-window : (k : ℕ) → 1200 ≤ k → monthDays k ≡ 0
 unfolding monthDays
 past-window k h = simp (le-ltb k 1200 h)
 

@@ -1,26 +1,27 @@
 -- Sets of a month's days: the whole month, none of it, one built up, and what a frame says of a day by its place.
-use mathlib.Core.Bool.{Bool, true, false, cond, not, _&&_, _||_, and-true}
+use mathlib.Core.Bool.{Bool, true, false, cond, not, _&&_, _||_, and-false}
 use mathlib.Core.List.{List}
 use mathlib.Core.Path.{_≡_, refl, sym, ap, _∙_}
 use Prim.Native.Nat.{ℕ, suc, _+_, _-_, _%_, _≤_}
 use native.Mathlib.Omega.{arith}
 use borrow.Author.Tests.{lt-leb, eq-eqb, not-true, not-false}
 use lib.Dec.{T, leb, eqb}
-use lib.ListN.{getD}
-use Rattle.calendar.proofs.Every.{both-true, every}
+use Rattle.calendar.proofs.Every.{every}
 use Rattle.calendar.specs.Below.{everyBelow}
 use Rattle.calendar.specs.Window.{monthFirst, monthDays, localWeekday}
 use Rattle.masks.proofs.MaskFroms.{mask-from-same, mask-none, bit-in-mask}
 use Rattle.masks.proofs.WithBits.{mask-from-with-last}
 use Rattle.masks.specs.Masks.{bit, maskFrom, withBit}
 use Rattle.frames.specs.Cron.{cronDayAt, cronDay}
-use Rattle.frames.specs.Months.{monthCounts, rulePart, monthPart, monthOut, dayOf, InMonth, placeWanted}
-use Rattle.frames.specs.Numbers.{cronOf}
-use Rattle.frames.specs.Rule.{noLimit, monthDayAllowed, weekdayAllowed, inSet, placed}
+use Rattle.frames.specs.Months.{monthCounts, rulePart, monthPart, monthOut, dayOf, daysIn, InMonth, placeWanted}
+use Rattle.frames.specs.Numbers.{cronOf, ruleOf, monthsIn, ruleMonthsIn}
+use Rattle.frames.specs.Rule.{noLimit, monthAllowed, monthDayAllowed, weekdayAllowed, inSet}
+use Rattle.frames.specs.Years.{positionsIn}
+use Rattle.frames.specs.Kinds.{cronKind, ruleKind, kindIn, isKind}
 use Rattle.frames.specs.declared.Cron.{Cron}
+use Rattle.frames.specs.declared.Ends.{Ends}
 use Rattle.frames.specs.declared.Rule.{Rule}
 use Rattle.frames.proofs.MonthDays.{in-month, month-of-day, day-of-day, end-of-day, weekday-of-day}
-use Rattle.frames.proofs.Positions.{placed-by-bits}
 
 pub is-true : (b : Bool) → T b → b ≡ true
 is-true true t = refl
@@ -83,33 +84,60 @@ pub cron-day-at : (f : Cron) (k n : ℕ) → InMonth k n
 unfolding cronDay
 cron-day-at f k n i = rw (month-of-day k n i, day-of-day k n i, weekday-of-day k n i)
 
--- none of its months
-pub out-part : (l : List ℕ) (start k n : ℕ) → monthOut l k ≡ true → InMonth k n → monthPart l start k (dayOf k n) ≡ false
-unfolding monthOut monthPart cronDayAt
-out-part l start k n e i =
-    let p = both-true (eqb (getD l 0 0) 3) (not (bit (getD l 4 0) (k % 12 + 1))) e in
-    let m : bit (getD l 4 0) (k % 12 + 1) ≡ false = not-true (bit (getD l 4 0) (k % 12 + 1)) (p .1) in
-    rw (p .0) (cron-day-at (cronOf l) k n i ∙ simp m)
+pub in-set-at : (f : Rule) (k n : ℕ) → InMonth k n
+    → inSet f (dayOf k n)
+    ≡ (monthAllowed (f .months) (k % 12 + 1)
+    && (monthDayAllowed f n (monthDays k + 1 - n) && weekdayAllowed f n (monthDays k + 1 - n) ((localWeekday (monthFirst k) + (n - 1)) % 7)))
+unfolding inSet
+in-set-at f k n i = rw (month-of-day k n i, day-of-day k n i, end-of-day k n i, weekday-of-day k n i)
+
+-- a month that the mask of a rule leaves out has none of its days
+module _ (f : Rule) (k n : ℕ) (out : monthAllowed (f .months) (k % 12 + 1) ≡ false) (i : InMonth k n) where
+  pub not-in-set : inSet f (dayOf k n) ≡ false
+  not-in-set = in-set-at f k n i ∙ simp out
+
+  not-placed : (positions : Ends) → placeWanted positions (daysIn f k) n ≡ false
+  not-placed positions = let b = month-bit (λ j. inSet f (dayOf k j)) k n i ∙ not-in-set in simp b
+
+  none-chosen : (start counts : ℕ) (b : Bool) → noLimit (f .positions) ≡ b → rulePart f start counts k n ≡ false
+  unfolding rulePart
+  none-chosen start counts true e = simp (e, not-in-set, and-false)
+  none-chosen start counts false e = simp (e, not-placed (positionsIn f counts k), and-false)
+
+  pub out-rule : (start counts : ℕ) → rulePart f start counts k n ≡ false
+  out-rule start counts = none-chosen start counts (noLimit (f .positions)) refl
+
+-- none of a frame's months
+module _ (l : List ℕ) (start counts k n : ℕ) (i : InMonth k n) where
+  out-by-kind : (a b : Bool) → isKind cronKind l ≡ a → isKind ruleKind l ≡ b → monthOut l k ≡ true → monthPart l start counts k n ≡ false
+  unfolding monthOut monthPart cronDayAt
+  out-by-kind true b p q e =
+      let m : bit (monthsIn l) (k % 12 + 1) ≡ false = not-true (bit (monthsIn l) (k % 12 + 1)) (simp p at e) in
+      rw p (cron-day-at (cronOf l) k n i ∙ simp m)
+  out-by-kind false true p q e =
+      let m = not-true (monthAllowed (ruleMonthsIn l) (k % 12 + 1)) (simp (p, q) at e) in
+      rw (p, q) (out-rule (ruleOf l) k n m i start counts)
+  out-by-kind false false p q e = rw (p, q) refl
+
+  pub out-part : monthOut l k ≡ true → monthPart l start counts k n ≡ false
+  out-part e = out-by-kind (isKind cronKind l) (isKind ruleKind l) refl refl e
 
 -- one of its months
-pub month-in : (l : List ℕ) (k : ℕ) → monthOut l k ≡ false → getD l 0 0 ≡ 3 → bit (getD l 4 0) (k % 12 + 1) ≡ true
-unfolding monthOut
-month-in l k e z = not-false (bit (getD l 4 0) (k % 12 + 1)) (simp (eq-eqb (getD l 0 0) 3 z) at e)
+module _ (l : List ℕ) (k : ℕ) (e : monthOut l k ≡ false) where
+  pub month-in : kindIn l ≡ cronKind → bit (monthsIn l) (k % 12 + 1) ≡ true
+  unfolding monthOut
+  month-in z = not-false (bit (monthsIn l) (k % 12 + 1)) (simp (eq-eqb (kindIn l) cronKind z) at e)
 
-pub in-set-at : (f : Rule) (k n : ℕ) → InMonth k n
-    → inSet f (dayOf k n) ≡ (monthDayAllowed f n (monthDays k + 1 - n) && weekdayAllowed f n (monthDays k + 1 - n) ((localWeekday (monthFirst k) + (n - 1)) % 7))
-unfolding inSet
-in-set-at f k n i = rw (day-of-day k n i, end-of-day k n i, weekday-of-day k n i)
+  pub rule-month-in : kindIn l ≡ ruleKind → monthAllowed (ruleMonthsIn l) (k % 12 + 1) ≡ true
+  unfolding monthOut
+  rule-month-in z = not-false (monthAllowed (ruleMonthsIn l) (k % 12 + 1)) (simp z at e)
 
--- a rule's day by its month, without positions and with them
-module _ (f : Rule) (start k n : ℕ) (m : monthCounts f start k ≡ true) (i : InMonth k n) where
-  pub free-part : noLimit (f .positions) ≡ true → inSet f (dayOf k n) ≡ rulePart f start k (dayOf k n)
-  unfolding rulePart placed
-  free-part l = rw (m, placed, l) (sym (and-true (inSet f (dayOf k n))))
-
-  pub picked-part : (s : ℕ) → s ≡ maskFrom (λ j. inSet f (dayOf k j)) (monthDays k) 1 → noLimit (f .positions) ≡ false
-      → placeWanted (f .positions) s n ≡ rulePart f start k (dayOf k n)
+-- a rule's days by its month, without positions and with them
+module _ (f : Rule) (start counts k : ℕ) (m : monthCounts f start k ≡ true) where
+  pub free-part : (n : ℕ) → noLimit (f .positions) ≡ true → inSet f (dayOf k n) ≡ rulePart f start counts k n
   unfolding rulePart
-  picked-part s e l =
-      let b : bit s n ≡ inSet f (dayOf k n) = ap (λ (x : ℕ). bit x n) e ∙ month-bit (λ j. inSet f (dayOf k j)) k n i in
-      rw (m, b, placed-by-bits f k n i s e l)
+  free-part n l = rw (m, l) refl
+
+  pub picked-part : (n : ℕ) → noLimit (f .positions) ≡ false → placeWanted (positionsIn f counts k) (daysIn f k) n ≡ rulePart f start counts k n
+  unfolding rulePart
+  picked-part n l = rw (m, l) refl

@@ -2,20 +2,17 @@
 use mathlib.Core.Bool.{Bool, true, false, _&&_, _||_}
 use mathlib.Core.Path.{_≡_, refl, sym, ap, _∙_}
 use Prim.Native.Nat.{ℕ, zero, suc, _+_, _-_, _^_, _<_, _≤_, min}
-use native.Mathlib.Nat.{add-suc}
+use native.Mathlib.Nat.{add-suc, add-comm}
 use native.Mathlib.Omega.{arith}
-use Rattle.calendar.proofs.Windows.{month-days-range}
+use Rattle.calendar.proofs.Windows.{month-days-range, month-first-next, month-first-mono}
 use Rattle.calendar.specs.Below.{countFrom}
 use Rattle.calendar.specs.Window.{monthFirst, monthDays}
 use Rattle.masks.proofs.Bits.{bit-above}
 use Rattle.masks.proofs.Counts.{count-same, count-at-most, count-parts, bits-below-next, bits-in-two}
 use Rattle.masks.proofs.MaskFroms.{bit-in-mask, bit-below-mask, bit-above-mask}
 use Rattle.masks.specs.Masks.{bit, maskFrom, bitsFrom, bitsBelow}
-use Rattle.frames.specs.Rule.{noLimit, inSet, placed}
 use Rattle.frames.specs.Months.{dayOf, InMonth, placeWanted}
 use Rattle.frames.specs.declared.Ends.{Ends}
-use Rattle.frames.specs.declared.Rule.{Rule}
-use Rattle.frames.proofs.MonthDays.{date-of-day, end-of-day}
 
 -- days counted from a month's first on, and by their day of month from 1 on
 days-counted : (t : ℕ → Bool) (base c e : ℕ) → countFrom (λ j. t (base + (j - 1))) c (suc e) ≡ countFrom t c (base + e)
@@ -24,12 +21,12 @@ days-counted t base (suc c) e =
     let g : suc e - 1 ≡ e = omega arith in
     rw (g, days-counted t base c (suc e), add-suc base e)
 
-none-counted : (t : ℕ → Bool) (c i : ℕ) → ((j : ℕ) → i ≤ j → t j ≡ false) → countFrom t c i ≡ 0
+pub none-counted : (t : ℕ → Bool) (c i : ℕ) → ((j : ℕ) → i ≤ j → j < i + c → t j ≡ false) → countFrom t c i ≡ 0
 none-counted t zero i f = refl
-none-counted t (suc c) i f = rw (f i (omega arith), none-counted t c (suc i) (λ j h. f j (omega arith)))
+none-counted t (suc c) i f = rw (f i (omega arith) (omega arith), none-counted t c (suc i) (λ j h u. f j (omega arith) (omega arith)))
 
 module _ (t : ℕ → Bool) (base len n : ℕ) (h : n ≤ len) (short : len ≤ 31) where
-  pub set : ℕ
+  unfoldable pub set : ℕ
   set = maskFrom (λ j. t (base + (j - 1))) len 1
 
   bits-counted : (c e : ℕ) → e + c ≤ len → countFrom (bit set) c (suc e) ≡ countFrom t c (base + e)
@@ -57,7 +54,7 @@ module _ (t : ℕ → Bool) (base len n : ℕ) (h : n ≤ len) (short : len ≤ 
       let e : 64 - n ≡ (len + 1 - n) + (63 - len) = omega arith in
       let g : suc (n - 1) ≡ n = omega arith in
       let z : countFrom (bit set) (63 - len) (n + (len + 1 - n)) ≡ 0 =
-      none-counted (bit set) (63 - len) (n + (len + 1 - n)) (λ j a. bit-above-mask (λ i. t (base + (i - 1))) len 1 j (omega arith)) in
+      none-counted (bit set) (63 - len) (n + (len + 1 - n)) (λ j a b. bit-above-mask (λ i. t (base + (i - 1))) len 1 j (omega arith)) in
       let a : countFrom (bit set) (len + 1 - n) (suc (n - 1)) ≡ countFrom t (len + 1 - n) (base + (n - 1)) =
       bits-counted (len + 1 - n) (n - 1) (omega arith) in
       let b : countFrom (bit set) (len + 1 - n) (suc (n - 1)) ≡ countFrom (bit set) (len + 1 - n) n =
@@ -66,15 +63,37 @@ module _ (t : ℕ → Bool) (base len n : ℕ) (h : n ≤ len) (short : len ≤ 
       ap (λ (x : ℕ). countFrom (bit set) x n) e ∙ count-parts (bit set) (len + 1 - n) (63 - len) n in
       omega (arith, a, b, c, z)
 
-module _ (f : Rule) (k n : ℕ) (i : InMonth k n) where
-  pub placed-by-bits : (s : ℕ) → s ≡ maskFrom (λ j. inSet f (dayOf k j)) (monthDays k) 1 → noLimit (f .positions) ≡ false
-      → placed f (dayOf k n) ≡ (bit (f .positions .front) (bitsBelow s (n + 1)) || bit (f .positions .back) (bitsFrom s n))
-  unfolding placed set
-  placed-by-bits s e l =
-      let short : monthDays k ≤ 31 = month-days-range k (i .month) .1 in
-      let a = place-front (inSet f) (monthFirst k) (monthDays k) n (i .high) short in
-      let b = place-back (inSet f) (monthFirst k) (monthDays k) n (i .high) short (i .low) in
-      rw (l, placed) (rw (date-of-day k n i, end-of-day k n i, e, a, b))
+-- a day's places among the days of the months from `low` up to `high`: the days of the other months, and its place in its own
+module _ (t : ℕ → Bool) (k n low high : ℕ) (i : InMonth k n) (from : low ≤ k) (to : k < high) (top : high ≤ 1200) where
+  short : monthDays k ≤ 31
+  short = month-days-range k (i .month) .1
+
+  abbrev own : ℕ
+  own = maskFrom (λ j. t (dayOf k j)) (monthDays k) 1
+
+  pub counted-front : countFrom t (dayOf k n + 1 - monthFirst low) (monthFirst low)
+      ≡ countFrom t (monthFirst k - monthFirst low) (monthFirst low) + bitsBelow own (n + 1)
+  unfolding set
+  counted-front =
+      let m = month-first-mono low k from (omega arith) in
+      let c : dayOf k n + 1 - monthFirst low ≡ (monthFirst k - monthFirst low) + n = omega (arith, i .low) in
+      let b : monthFirst low + (monthFirst k - monthFirst low) ≡ monthFirst k = omega arith in
+      ap (λ (x : ℕ). countFrom t x (monthFirst low)) c
+      ∙ count-parts t (monthFirst k - monthFirst low) n (monthFirst low)
+      ∙ rw (b, place-front t (monthFirst k) (monthDays k) n (i .high) short)
+
+  pub counted-back : countFrom t (monthFirst high - dayOf k n) (dayOf k n)
+      ≡ countFrom t (monthFirst high - monthFirst (k + 1)) (monthFirst (k + 1)) + bitsFrom own n
+  unfolding set
+  counted-back =
+      let m = month-first-mono (k + 1) high (omega arith) top in
+      let e = month-first-next k (i .month) in
+      let c : monthFirst high - dayOf k n ≡ (monthDays k + 1 - n) + (monthFirst high - monthFirst (k + 1)) = omega (arith, i .low, i .high) in
+      let b : dayOf k n + (monthDays k + 1 - n) ≡ monthFirst (k + 1) = omega (arith, i .low, i .high) in
+      ap (λ (x : ℕ). countFrom t x (dayOf k n)) c
+      ∙ count-parts t (monthDays k + 1 - n) (monthFirst high - monthFirst (k + 1)) (dayOf k n)
+      ∙ rw (b, place-back t (monthFirst k) (monthDays k) n (i .high) short (i .low))
+      (add-comm (bitsFrom own n) (countFrom t (monthFirst high - monthFirst (k + 1)) (monthFirst (k + 1))))
 
 -- a walk over a set's days: those passed and those left are the places of day n
 module _ (s n passed : ℕ) (small : n ≤ 31) (so-far : passed ≡ bitsBelow s n) where
@@ -98,7 +117,7 @@ module _ (s len : ℕ) (short : len ≤ 31) where
 
   none-above : s < 2 ^ (1 + len) → bitsFrom s (1 + len) ≡ 0
   unfolding bitsFrom
-  none-above below = none-counted (bit s) (64 - (1 + len)) (1 + len) (λ j h. bit-above s (1 + len) j below h)
+  none-above below = none-counted (bit s) (64 - (1 + len)) (1 + len) (λ j h u. bit-above s (1 + len) j below h)
 
   pub few-days : bit s 0 ≡ false → s < 2 ^ (1 + len) → bitsFrom s 0 ≤ 31
   few-days z below = omega (arith, bits-in-two s (1 + len) (omega arith), few-below z, none-above below)

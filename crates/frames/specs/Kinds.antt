@@ -1,4 +1,4 @@
--- "Kind": the first byte of a frame, and a rule's frequency, "1 daily, 2 weekly, 3 monthly".
+-- "Kind": the first byte of a frame, and a rule's frequency, "1 daily, 2 weekly, 3 monthly", and by request T-01 "`FREQ=YEARLY` (frequency 4)".
 use mathlib.Core.Bool.{Bool}
 use mathlib.Core.List.{List}
 use Prim.Native.Nat.{ℕ}
@@ -40,6 +40,13 @@ weeklyNumber = 2
 abbrev pub monthlyNumber : ℕ
 monthlyNumber = 3
 
+abbrev pub yearlyNumber : ℕ
+yearlyNumber = 4
+
+-- the numbers of a row
+abbrev pub rowNumbers : ℕ
+rowNumbers = 18
+
 -- a frame's numbers: its kind first, then a rule's frequency
 abbrev pub kindIn : List ℕ → ℕ
 kindIn l = getD l 0 0
@@ -58,3 +65,6 @@ isWeekly f = eqb (f .frequency) weeklyNumber
 
 abbrev pub isMonthly : Rule → Bool
 isMonthly f = eqb (f .frequency) monthlyNumber
+
+abbrev pub isYearly : Rule → Bool
+isYearly f = eqb (f .frequency) yearlyNumber

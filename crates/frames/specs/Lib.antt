@@ -3,5 +3,6 @@ pub mod Kinds
 pub mod Cron
 pub mod Rule
 pub mod Numbers
+pub mod Years
 pub mod Months
 pub mod Open

@@ -1,4 +1,4 @@
--- A cron or rule frame as the search holds it: sixteen numbers, the first the frame's kind.
+-- A cron or rule frame as the search holds it: a row of numbers, the first the frame's kind.
 use mathlib.Core.Bool.{Bool, false, cond}
 use mathlib.Core.List.{List}
 use Prim.Native.Nat.{ℕ, _/_}
@@ -32,11 +32,15 @@ ruleOf l =
       days = record { front = getD l 6 0; back = getD l 7 0 };
       ordinals = record { front = getD l 8 0; back = getD l 9 0 };
       positions = record { front = getD l 10 0; back = getD l 11 0 };
+      months = getD l 12 0;
     }
 
--- a cron frame's months, a rule's start, the local minute of an extra or excepted one, by their place in the row
+-- a cron frame's months, a rule's months and its start, the local minute of an extra or excepted one, by their place in the row
 abbrev pub monthsIn : List ℕ → ℕ
 monthsIn l = getD l 4 0
+
+abbrev pub ruleMonthsIn : List ℕ → ℕ
+ruleMonthsIn l = getD l 12 0
 
 abbrev pub startIn : List ℕ → ℕ
 startIn l = getD l 3 0

@@ -1,11 +1,11 @@
--- "Rules", read from the fields of a frame; nothing is counted but places within a month.
+-- "Rules", read from the fields of a frame; nothing is counted but places within a month or a year.
 use mathlib.Core.Bool.{Bool, true, false, cond, _&&_, _||_}
-use Prim.Native.Nat.{ℕ, _+_, _-_, _/_, _%_, _^_}
+use Prim.Native.Nat.{ℕ, _+_, _-_, _*_, _/_, _%_, _^_}
 use lib.Dec.{leb, eqb}
 use Rattle.calendar.specs.Below.{countFrom}
 use Rattle.calendar.specs.Window.{monthFirst, localDate, localWeekday, localWeek, fromEnd, dayMinutes}
 use Rattle.masks.specs.Masks.{bit}
-use Rattle.frames.specs.Kinds.{isDaily, isWeekly}
+use Rattle.frames.specs.Kinds.{isDaily, isWeekly, isYearly}
 use Rattle.frames.specs.declared.Ends.{Ends}
 use Rattle.frames.specs.declared.Rule.{Rule}
 
@@ -36,24 +36,39 @@ weekdayAllowed f day back weekday =
     eqb (f .weekdays) 0 && noLimit (f .ordinals)
     || (bit (f .weekdays) weekday || ordinalAllowed (f .ordinals) day back weekday)
 
+-- T-01: "a month mask of 2 bytes at its end, zero for no limit"; January 1
+abbrev pub monthAllowed : ℕ → ℕ → Bool
+monthAllowed months month = eqb months 0 || bit months month
+
 -- the period's day set: days that satisfy each limit that is given
 unfoldable pub inSet : Rule → ℕ → Bool
-inSet f d = monthDayAllowed f (localDate d .day) (fromEnd d) && weekdayAllowed f (localDate d .day) (fromEnd d) (localWeekday d)
+inSet f d =
+    monthAllowed (f .months) (localDate d .month % 12 + 1)
+    && (monthDayAllowed f (localDate d .day) (fromEnd d) && weekdayAllowed f (localDate d .day) (fromEnd d) (localWeekday d))
+
+-- the first day of the period that holds month k, and the first after it, where a rule has positions: its month, or T-01's "calendar year"
+abbrev pub setFirst : Rule → ℕ → ℕ
+setFirst f k = monthFirst (cond (isYearly f) (12 * (k / 12)) k)
+
+abbrev pub setPast : Rule → ℕ → ℕ
+setPast f k = monthFirst (cond (isYearly f) (12 * (k / 12) + 12) (k + 1))
 
 -- "BYSETPOS picks from the period's whole rising day set, days before the start included; a place that does not exist picks nothing."
--- Only monthly frames have positions, so the period is the day's month.
+-- Only monthly and yearly frames have positions.
 unfoldable pub placed : Rule → ℕ → Bool
 placed f d =
-    let q = localDate d in
+    let first = setFirst f (localDate d .month) in
+    let past = setPast f (localDate d .month) in
     elim (noLimit (f .positions)) [
       | true ↦ true
-      | false ↦ bit (f .positions .front) (countFrom (inSet f) (q .day) (monthFirst (q .month)))
-          || bit (f .positions .back) (countFrom (inSet f) (fromEnd d) d)
+      | false ↦ bit (f .positions .front) (countFrom (inSet f) (d + 1 - first) first)
+          || bit (f .positions .back) (countFrom (inSet f) (past - d) d)
     ]
 
--- "Periods are days, Monday weeks or months."
+-- "Periods are days, Monday weeks or months"; T-01: "For YEARLY the period is the calendar year".
 unfoldable pub period : Rule → ℕ → ℕ
-period f d = cond (isDaily f) d (cond (isWeekly f) (localWeek d) (localDate d .month))
+period f d =
+    cond (isDaily f) d (cond (isWeekly f) (localWeek d) (cond (isYearly f) (localDate d .month / 12) (localDate d .month)))
 
 -- "Period 0 holds the start; every INTERVAL-th from there counts."
 unfoldable pub counts : Rule → ℕ → Bool

@@ -18,3 +18,5 @@ pub const DAILY: u64 = 1;
 pub const WEEKLY: u64 = 2;
 
 pub const MONTHLY: u64 = 3;
+
+pub const YEARLY: u64 = 4;

@@ -7,6 +7,7 @@ mod picks;
 pub mod places;
 pub mod truth;
 mod turns;
+pub mod years;
 
 // Frame 03: the masks of the five fields; flag bit 0 says that the day of month is restricted, bit 1 that the day of week is.
 pub struct Cron {
@@ -24,7 +25,7 @@ pub struct Ends {
     pub back: u64,
 }
 
-// Frame 04: frequency 1 daily, 2 weekly, 3 monthly. The ordinals are five bytes, a weekday mask each, the first the highest.
+// Frame 04: frequency 1 daily, 2 weekly, 3 monthly, 4 yearly. The ordinals are five bytes, a weekday mask each, the first the highest.
 pub struct Rule {
     pub frequency: u64,
     pub interval: u64,
@@ -34,4 +35,5 @@ pub struct Rule {
     pub days: Ends,
     pub ordinals: Ends,
     pub positions: Ends,
+    pub months: u64,
 }

@@ -5,16 +5,18 @@ ghost use Prim.Native.Nat.{_+_, _%_, _≤_, _<_};
 ghost use Rattle.calendar.specs.Window.{monthFirst, monthDays, localWeekday, windowMonths};
 ghost use Rattle.masks.specs.Masks.{bit, maskFrom};
 ghost use Rattle.frames.specs.Cron.{cronDay};
-ghost use Rattle.frames.specs.Months.{monthCounts, dayOf, rulePart, monthSet, monthOut};
-ghost use Rattle.frames.specs.Rule.{inSet};
+ghost use Rattle.frames.specs.Months.{monthCounts, dayOf, daysIn, nonePlaced, rulePart, monthSet, monthOut};
+ghost use Rattle.frames.specs.Numbers.{ruleOf, ruleMonthsIn};
+ghost use Rattle.frames.specs.Rule.{monthAllowed};
 use crate::Cron;
-use crate::Rule;
 use crate::kinds;
 use crate::limits;
 use crate::numbers;
 use crate::picks;
 use crate::places;
 use crate::places::Row;
+use crate::truth::both;
+use crate::years;
 use calendar::num;
 use calendar::window;
 use calendar::year;
@@ -34,14 +36,27 @@ fn days_up_to(mask: u64, len: u64) -> u64
     (mask >> 1) % (1 << len) * 2
 }
 
-// Whether month k is none of a cron frame's months: no day of it is held then.
+// Whether a rule's mask of months allows a month, 1 to 12.
+fn allowed(months: u64, month: u64) -> bool
+    ensures { λ r. ⌜ r ≡ monthAllowed months month ⌝ }
+{
+    if months == 0 {
+        return true;
+    }
+    masks::test(months, month)
+}
+
+// Whether month k is none of the frame's months: no day of it is held then.
 pub fn month_out(f: &Row, k: u64) -> bool
     ensures { λ r. ⌜ r ≡ monthOut (now (f .entry)) k ⌝ }
 {
-    if f[places::KIND] != kinds::CRON {
-        return false;
+    if f[places::KIND] == kinds::CRON {
+        return !masks::test(f[places::MONTHS], k % 12 + 1);
     }
-    !masks::test(f[places::MONTHS], k % 12 + 1)
+    if f[places::KIND] == kinds::RULE {
+        return !allowed(f[places::RULE_MONTHS], k % 12 + 1);
+    }
+    false
 }
 
 // A cron frame's days of month k, one of its months.
@@ -57,51 +72,75 @@ fn cron_set(f: Cron, k: u64) -> u64
     days_up_to(f.days & week, len)
 }
 
-// Every interval'th month of a rule whose periods are months.
-fn month_counts(f: Rule, start: u64, k: u64) -> bool
-    ensures { λ r. ⌜ r ≡ monthCounts f start k ⌝ }
+// Every interval'th month of a rule whose periods are months, or the months of every interval'th year.
+fn month_counts(f: &Row, start: u64, k: u64) -> bool
+    ensures { λ r. ⌜ r ≡ monthCounts (ruleOf (now (f .entry))) start k ⌝ }
 {
-    if f.frequency == kinds::DAILY {
+    if f[places::FREQUENCY] == kinds::DAILY {
         return true;
     }
-    if f.frequency == kinds::WEEKLY {
+    if f[places::FREQUENCY] == kinds::WEEKLY {
         return true;
     }
-    num::over_whole(num::minus(k, start), f.interval) == 0
+    if f[places::FREQUENCY] == kinds::YEARLY {
+        return num::over_whole(num::minus(k / 12, start / 12), f[places::INTERVAL]) == 0;
+    }
+    num::over_whole(num::minus(k, start), f[places::INTERVAL]) == 0
 }
 
-// The day set of a rule's month.
-fn day_set(f: Rule, k: u64) -> u64
-    requires { ⌜ k < windowMonths ⌝ }
-    ensures { λ r. ⌜ r ≡ maskFrom (λ n. inSet f (dayOf k n)) (monthDays k) 1 ⌝ }
+// The day set of a rule's month, one that its mask of months allows.
+fn day_set(f: &Row, k: u64) -> u64
+    requires { ⌜ (k < windowMonths) × (monthAllowed (ruleMonthsIn (now f)) (k % 12 + 1) ≡ true) ⌝ }
+    ensures { λ r. ⌜ r ≡ daysIn (ruleOf (now (f .entry))) k ⌝ }
 {
+    let rule = numbers::rule_of(f);
     let len = window::month_days(k);
-    let wanted = limits::days_allowed(f, len);
+    let wanted = limits::days_allowed(rule, len);
     days_up_to(
-        wanted & limits::weekdays_allowed(f, first_weekday(k), len),
+        wanted & limits::weekdays_allowed(rule, first_weekday(k), len),
         len,
     )
 }
 
+// Whether a rule has positions, and none for month k: it is passed without its day set.
+fn none_placed(f: &Row, counts: u64, k: u64) -> bool
+    ensures { λ r. ⌜ r ≡ nonePlaced (ruleOf (now (f .entry))) counts k ⌝ }
+{
+    if limits::no_limit(numbers::positions_of(f)) {
+        return false;
+    }
+    if years::none_counted(f, counts, k) {
+        return true;
+    }
+    let positions = years::positions_in(f, counts, k);
+    both(positions.front < 2, positions.back < 2)
+}
+
 // A rule frame's days of month k, its start and a daily or weekly interval aside.
-fn rule_set(f: Rule, start: u64, k: u64) -> u64
-    requires { ⌜ k < windowMonths ⌝ }
-    ensures { λ r. ⌜ r ≡ maskFrom (λ n. rulePart f start k (dayOf k n)) (monthDays k) 1 ⌝ }
+fn rule_set(f: &Row, start: u64, counts: u64, k: u64) -> u64
+    requires { ⌜ (k < windowMonths) × (monthAllowed (ruleMonthsIn (now f)) (k % 12 + 1) ≡ true) ⌝ }
+    ensures { λ r. ⌜ r ≡ maskFrom (rulePart (ruleOf (now (f .entry))) start counts k) (monthDays k) 1 ⌝ }
 {
     if !month_counts(f, start, k) {
         return 0;
     }
+    if none_placed(f, counts, k) {
+        return 0;
+    }
     let set = day_set(f, k);
-    let positions = f.positions;
-    if limits::no_limit(positions) {
+    if limits::no_limit(numbers::positions_of(f)) {
         return set;
     }
-    picks::picked(positions, set, window::month_days(k))
+    picks::picked(
+        years::positions_in(f, counts, k),
+        set,
+        window::month_days(k),
+    )
 }
 
-// A frame's days of month k, as far as they go by the month; `start` is the month of the start.
-pub fn month_set(f: &Row, start: u64, k: u64) -> u64
-    ensures { λ r. ⌜ r ≡ monthSet (now (f .entry)) start k ⌝ }
+// A frame's days of month k, as far as they go by the month; `start` is the month of the start, `counts` are those of the month's year.
+pub fn month_set(f: &Row, start: u64, counts: u64, k: u64) -> u64
+    ensures { λ r. ⌜ r ≡ monthSet (now (f .entry)) start counts k ⌝ }
 {
     if window::LAST_MONTH < k {
         return 0;
@@ -113,7 +152,7 @@ pub fn month_set(f: &Row, start: u64, k: u64) -> u64
         return cron_set(numbers::cron_of(f), k);
     }
     if f[places::KIND] == kinds::RULE {
-        return rule_set(numbers::rule_of(f), start, k);
+        return rule_set(f, start, counts, k);
     }
     0
 }

@@ -1,4 +1,4 @@
-// A frame as sixteen numbers, the first its kind: what the steps of the search can hand on without growing the stack.
+// A frame as a row of numbers, the first its kind: what the steps of the search can hand on without growing the stack.
 ghost use mathlib.Core.Path.{_≡_};
 ghost use Rattle.frames.specs.Numbers.{cronOf, ruleOf};
 use crate::Cron;
@@ -17,6 +17,15 @@ pub fn cron_of(f: &Row) -> Cron
         months: f[places::MONTHS],
         weekdays: f[places::WEEKDAYS],
         flags: f[places::FLAGS],
+    }
+}
+
+pub(crate) fn positions_of(f: &Row) -> Ends
+    ensures { λ r. ⌜ r ≡ ruleOf (now (f .entry)) .positions ⌝ }
+{
+    Ends {
+        front: f[places::POSITIONS_FRONT],
+        back: f[places::POSITIONS_BACK],
     }
 }
 
@@ -41,5 +50,6 @@ pub fn rule_of(f: &Row) -> Rule
             front: f[places::POSITIONS_FRONT],
             back: f[places::POSITIONS_BACK],
         },
+        months: f[places::RULE_MONTHS],
     }
 }

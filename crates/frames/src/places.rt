@@ -1,8 +1,9 @@
 // A frame as a row of numbers: its kind first, and which number stands where.
 ghost use mathlib.Core.Path.{_≡_};
 ghost use lib.ListN.{replicate};
+ghost use Rattle.frames.specs.Kinds.{mostFrames, rowNumbers};
 
-pub const NUMBERS: usize = 16;
+pub const NUMBERS: usize = 18;
 
 pub type Row = [u64; NUMBERS];
 
@@ -13,7 +14,7 @@ pub type Rows = [Row; FRAMES];
 
 // Rows to fill. Ones, since a fill by zeros is a memset, which may go byte by byte.
 pub fn fresh_rows() -> Rows
-    ensures { λ r. ⌜ r ≡ replicate 64 (replicate 16 1) ⌝ }
+    ensures { λ r. ⌜ r ≡ replicate mostFrames (replicate rowNumbers 1) ⌝ }
 {
     let row = [1u64; NUMBERS];
     [row; FRAMES]
@@ -67,5 +68,7 @@ pub const ORDINALS_BACK: usize = 9;
 pub const POSITIONS_FRONT: usize = 10;
 
 pub const POSITIONS_BACK: usize = 11;
-// The first number that no frame has.
-pub const FREE: usize = 12;
+
+pub const RULE_MONTHS: usize = 12;
+// The first of the numbers that a walk keeps beside a frame; the one before it is the next that frames may need.
+pub const FREE: usize = 14;

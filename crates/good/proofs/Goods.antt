@@ -1,5 +1,5 @@
 -- What the tests of a frame's numbers are, one by one.
-use mathlib.Core.Bool.{Bool, true, false, not, _&&_, or-false, and-true}
+use mathlib.Core.Bool.{Bool, true, false, not, _&&_, _||_, or-false, and-true}
 use mathlib.Core.List.{List}
 use mathlib.Core.Logic.{dite}
 use mathlib.Core.Path.{_≡_, refl, sym, _∙_}
@@ -14,7 +14,7 @@ use Rattle.frames.specs.Rule.{noLimit, ruleDay, ruleOccurs}
 use Rattle.days.specs.Search.{leastDay}
 use Rattle.frames.specs.declared.Rule.{Rule}
 use Rattle.plan.specs.Rows.{rowOf}
-use Rattle.plan.specs.Taken.{onlyBits, ordinalsGood, frequencyGood}
+use Rattle.plan.specs.Taken.{onlyBits, ordinalsGood, anyDay, frequencyGood}
 use Rattle.plan.specs.declared.Frame.{Frame}
 
 -- a test a, whose answer r let the code stop or go on
@@ -53,13 +53,17 @@ module _ (f : Rule) where
   unfolding frequencyGood
   weekly-good e = rw e (or-false (ltb 0 (f .weekdays) && (noLimit (f .days) && (noLimit (f .ordinals) && noLimit (f .positions)))))
 
-  pub monthly-good : f .frequency ≡ 3 → frequencyGood f ≡ not (eqb (f .weekdays) 0 && (noLimit (f .days) && noLimit (f .ordinals)))
+  pub monthly-good : f .frequency ≡ 3 → frequencyGood f ≡ anyDay f
   unfolding frequencyGood
-  monthly-good e = rw e
+  monthly-good e = rw e (or-false (anyDay f))
 
-  pub no-frequency : (f .frequency ≡ 1 → ⊥) → (f .frequency ≡ 2 → ⊥) → (f .frequency ≡ 3 → ⊥) → frequencyGood f ≡ false
+  pub yearly-good : f .frequency ≡ 4 → frequencyGood f ≡ (anyDay f && (noLimit (f .ordinals) || ltb 0 (f .months)))
   unfolding frequencyGood
-  no-frequency a b c = rw (ne-eqb (f .frequency) 1 a, ne-eqb (f .frequency) 2 b, ne-eqb (f .frequency) 3 c)
+  yearly-good e = rw e
+
+  pub no-frequency : (f .frequency ≡ 1 → ⊥) → (f .frequency ≡ 2 → ⊥) → (f .frequency ≡ 3 → ⊥) → (f .frequency ≡ 4 → ⊥) → frequencyGood f ≡ false
+  unfolding frequencyGood
+  no-frequency a b c d = simp (ne-eqb (f .frequency) 1 a, ne-eqb (f .frequency) 2 b, ne-eqb (f .frequency) 3 c, ne-eqb (f .frequency) 4 d)
 
 -- a day by itself is the least of itself exactly if it is held
 day-found : (l : List ℕ) (d : ℕ) → d < 36525 → eqb (leastDay l d (d + 1)) d ≡ dayHeld l d

@@ -1,9 +1,10 @@
 // A rule frame's frequency, limits, interval and start.
-ghost use mathlib.Core.Bool.{_&&_};
+ghost use mathlib.Core.Bool.{_&&_, _||_};
 ghost use mathlib.Core.Path.{_≡_};
-ghost use Rattle.frames.specs.Rule.{ruleOccurs};
+ghost use lib.Dec.{ltb};
+ghost use Rattle.frames.specs.Rule.{noLimit, ruleOccurs};
 ghost use Rattle.zone.specs.Zone.{inWindow};
-ghost use Rattle.plan.specs.Taken.{ordinalsGood, placesGood, frequencyGood, ruleGood};
+ghost use Rattle.plan.specs.Taken.{ordinalsGood, placesGood, anyDay, frequencyGood, ruleGood};
 use crate::bits::only_bits;
 use crate::bits::pair_good;
 use calendar::num::lies_within;
@@ -56,26 +57,44 @@ fn places_good(f: Rule) -> bool
     if !ordinals_good(ordinals.back) {
         return false;
     }
-    pair_good(f.positions)
+    both(pair_good(f.positions), only_bits(f.months, 1, 12))
+}
+
+// A month day or a weekday is set.
+fn any_day(f: Rule) -> bool
+    ensures { λ r. ⌜ r ≡ anyDay f ⌝ }
+{
+    !both(
+        f.weekdays == 0,
+        both(no_limit(f.days), no_limit(f.ordinals)),
+    )
+}
+
+// A yearly rule's ordinals are of a month that is set.
+fn months_named(f: Rule) -> bool
+    ensures { λ r. ⌜ r ≡ (noLimit (f .ordinals) || ltb 0 (f .months)) ⌝ }
+{
+    if no_limit(f.ordinals) {
+        return true;
+    }
+    0 < f.months
 }
 
 fn frequency_good(f: Rule) -> bool
     ensures { λ r. ⌜ r ≡ frequencyGood f ⌝ }
 {
-    let no_ordinals = no_limit(f.ordinals);
-    let no_positions = no_limit(f.positions);
-    let no_days = no_limit(f.days);
+    let plain = both(no_limit(f.ordinals), no_limit(f.positions));
     if f.frequency == kinds::DAILY {
-        return both(no_ordinals, no_positions);
+        return plain;
     }
     if f.frequency == kinds::WEEKLY {
-        return both(
-            0 < f.weekdays,
-            both(no_days, both(no_ordinals, no_positions)),
-        );
+        return both(0 < f.weekdays, both(no_limit(f.days), plain));
     }
     if f.frequency == kinds::MONTHLY {
-        return !both(f.weekdays == 0, both(no_days, no_ordinals));
+        return any_day(f);
+    }
+    if f.frequency == kinds::YEARLY {
+        return both(any_day(f), months_named(f));
     }
     false
 }

@@ -10,18 +10,18 @@ use lib.Dec.{eqb}
 use lib.ListN.{length}
 use Rattle.calendar.proofs.Every.{same-either-way, regrouped}
 use Rattle.calendar.specs.Below.{anyOf, allOf}
-use Rattle.entries.specs.Lists.{weekdaysGiven, numbersGiven}
+use Rattle.entries.specs.Lists.{weekdaysGiven, numbersGiven, monthsGiven}
 use Rattle.masks.proofs.MaskFroms.{mask-ext, mask-from-same, mask-from-below, bit-in-mask}
 use Rattle.masks.proofs.WithBits.{bit-of-with-bit, with-bit-below}
 use Rattle.masks.specs.Masks.{bit, maskFrom, withBit}
-use Rattle.sheet.specs.Form.{Time, Entry, Frequency, Part, freq, interval, count, until, byDay, byMonthDay, bySetPos}
+use Rattle.sheet.specs.Form.{Time, Entry, Frequency, Part, freq, interval, count, until, byDay, byMonthDay, bySetPos, byMonth}
 use Rattle.sheet.specs.Parts.{Given, givenOf, nameOf, givenTwice}
 use Rattle.sheet.specs.Range.{partInRange}
 use Rattle.sheet.specs.Words.{Signed}
 use Rattle.words.proofs.Folding.{takenAs}
 use Rattle.words.specs.Lists.{overAll, listAt}
 use Rattle.words.specs.Reads.{cursor}
-use Rattle.parts.specs.Given.{nameIn, goodIn, withValue, taken, frequencyFrom, countFrom, untilFrom, daysFrom, numbersFrom, partsGiven, partsRead, partsAs}
+use Rattle.parts.specs.Given.{nameIn, goodIn, withValue, taken, frequencyFrom, countFrom, untilFrom, daysFrom, numbersFrom, monthsFrom, partsGiven, partsRead, partsAs}
 use Rattle.parts.specs.Values.{partAs, partRead}
 use Rattle.parts.specs.declared.given.Given.{Given as Answer}
 use Rattle.parts.specs.declared.given.Parts.{Parts}
@@ -46,6 +46,7 @@ frequencyIn (some (until t)) = none
 frequencyIn (some (byDay es)) = none
 frequencyIn (some (byMonthDay ns)) = none
 frequencyIn (some (bySetPos ns)) = none
+frequencyIn (some (byMonth ms)) = none
 
 numberIn : Option Part → Option ℕ
 numberIn none = none
@@ -56,6 +57,7 @@ numberIn (some (until t)) = none
 numberIn (some (byDay es)) = none
 numberIn (some (byMonthDay ns)) = none
 numberIn (some (bySetPos ns)) = none
+numberIn (some (byMonth ms)) = none
 
 timeIn : Option Part → Option Time
 timeIn none = none
@@ -66,6 +68,7 @@ timeIn (some (until t)) = some t
 timeIn (some (byDay es)) = none
 timeIn (some (byMonthDay ns)) = none
 timeIn (some (bySetPos ns)) = none
+timeIn (some (byMonth ms)) = none
 
 entriesIn : Option Part → Option (List Entry)
 entriesIn none = none
@@ -76,6 +79,7 @@ entriesIn (some (until t)) = none
 entriesIn (some (byDay es)) = some es
 entriesIn (some (byMonthDay ns)) = none
 entriesIn (some (bySetPos ns)) = none
+entriesIn (some (byMonth ms)) = none
 
 numbersIn : Option Part → Option (List Signed)
 numbersIn none = none
@@ -86,6 +90,18 @@ numbersIn (some (until t)) = none
 numbersIn (some (byDay es)) = none
 numbersIn (some (byMonthDay ns)) = some ns
 numbersIn (some (bySetPos ns)) = some ns
+numbersIn (some (byMonth ms)) = none
+
+monthsIn : Option Part → Option (List ℕ)
+monthsIn none = none
+monthsIn (some (freq f)) = none
+monthsIn (some (interval n)) = none
+monthsIn (some (count n)) = none
+monthsIn (some (until t)) = none
+monthsIn (some (byDay es)) = none
+monthsIn (some (byMonthDay ns)) = none
+monthsIn (some (bySetPos ns)) = none
+monthsIn (some (byMonth ms)) = some ms
 
 givenBy : (ℕ → Option Part) → Given
 givenBy f =
@@ -97,10 +113,11 @@ givenBy f =
       days = entriesIn (f 4);
       monthDays = numbersIn (f 5);
       positions = numbersIn (f 6);
+      months = monthsIn (f 7);
     }
 
 given-by : (ps : List Part) → givenOf ps ≡ givenBy (λ k. lookup k ps)
-unfolding givenOf givenBy lookup frequencyIn numberIn timeIn entriesIn numbersIn
+unfolding givenOf givenBy lookup frequencyIn numberIn timeIn entriesIn numbersIn monthsIn
 given-by [] = refl
 given-by (freq f ∷ ps) = rw (given-by ps) refl
 given-by (interval n ∷ ps) = rw (given-by ps) refl
@@ -109,10 +126,11 @@ given-by (until t ∷ ps) = rw (given-by ps) refl
 given-by (byDay es ∷ ps) = rw (given-by ps) refl
 given-by (byMonthDay ns ∷ ps) = rw (given-by ps) refl
 given-by (bySetPos ns ∷ ps) = rw (given-by ps) refl
+given-by (byMonth ms ∷ ps) = rw (given-by ps) refl
 
 given-same : (f g : ℕ → Option Part) → ((k : ℕ) → f k ≡ g k) → givenBy f ≡ givenBy g
 unfolding givenBy
-given-same f g e = rw (e 0, e 1, e 2, e 3, e 4, e 5, e 6) refl
+given-same f g e = rw (e 0, e 1, e 2, e 3, e 4, e 5, e 6, e 7) refl
 
 -- ---- one part more at the end
 module _ (p : Part) where
@@ -189,6 +207,7 @@ built names twice good g =
       weekdays = daysFrom (g .days);
       days = numbersFrom (g .monthDays);
       positions = numbersFrom (g .positions);
+      months = monthsFrom (g .months);
     }
 
 value-more : (names : ℕ) (twice good : Bool) (p : Part) (ps : List Part)
@@ -201,6 +220,7 @@ value-more names twice good (until t) ps = refl
 value-more names twice good (byDay es) ps = refl
 value-more names twice good (byMonthDay ns) ps = refl
 value-more names twice good (bySetPos ns) ps = refl
+value-more names twice good (byMonth ms) ps = refl
 
 name-as : (p : Part) → nameIn (partAs p) ≡ nameOf p
 unfolding partAs
@@ -211,9 +231,10 @@ name-as (until t) = refl
 name-as (byDay es) = refl
 name-as (byMonthDay ns) = refl
 name-as (bySetPos ns) = refl
+name-as (byMonth ms) = refl
 
 good-as : (p : Part) → goodIn (partAs p) ≡ partInRange p
-unfolding partAs partInRange weekdaysGiven numbersGiven
+unfolding partAs partInRange weekdaysGiven numbersGiven monthsGiven
 good-as (freq f) = refl
 good-as (interval n) = refl
 good-as (count n) = refl
@@ -221,8 +242,9 @@ good-as (until t) = refl
 good-as (byDay es) = refl
 good-as (byMonthDay ns) = refl
 good-as (bySetPos ns) = refl
+good-as (byMonth ms) = refl
 
-name-below : (p : Part) → nameOf p < 7
+name-below : (p : Part) → nameOf p < 8
 name-below (freq f) = omega arith
 name-below (interval n) = omega arith
 name-below (count n) = omega arith
@@ -230,17 +252,18 @@ name-below (until t) = omega arith
 name-below (byDay es) = omega arith
 name-below (byMonthDay ns) = omega arith
 name-below (bySetPos ns) = omega arith
+name-below (byMonth ms) = omega arith
 
 abbrev namesOf : List Part → ℕ
-namesOf ps = maskFrom (λ k. named k ps) 7 0
+namesOf ps = maskFrom (λ k. named k ps) 8 0
 
 module _ (p : Part) (ps : List Part) where
   name-bit : bit (namesOf ps) (nameOf p) ≡ named (nameOf p) ps
-  name-bit = bit-in-mask (λ k. named k ps) 7 0 (nameOf p) (omega arith) (name-below p)
+  name-bit = bit-in-mask (λ k. named k ps) 8 0 (nameOf p) (omega arith) (name-below p)
 
   names-same : named (nameOf p) ps ≡ true → namesOf (ps ++ (p ∷ [])) ≡ namesOf ps
   names-same e =
-      mask-from-same (λ k. named k (ps ++ (p ∷ []))) (λ k. named k ps) 7 0
+      mask-from-same (λ k. named k (ps ++ (p ∷ []))) (λ k. named k ps) 8 0
       (λ k l h. any-more p (λ q. eqb (nameOf q) k) ps ∙ by-name k (eqb (nameOf p) k) refl)
     where
       by-name : (k : ℕ) (b : Bool) → eqb (nameOf p) k ≡ b → (named k ps || b) ≡ named k ps
@@ -249,12 +272,12 @@ module _ (p : Part) (ps : List Part) where
 
   names-new : withBit (namesOf ps) (nameOf p) ≡ namesOf (ps ++ (p ∷ []))
   names-new =
-      mask-ext 7 _ _ (with-bit-below (namesOf ps) (nameOf p) 7 (mask-from-below (λ k. named k ps) 7 0) (name-below p)) (mask-from-below (λ k. named k (ps ++ (p ∷ []))) 7 0)
+      mask-ext 8 _ _ (with-bit-below (namesOf ps) (nameOf p) 8 (mask-from-below (λ k. named k ps) 8 0) (name-below p)) (mask-from-below (λ k. named k (ps ++ (p ∷ []))) 8 0)
       (λ i l.
       bit-of-with-bit (namesOf ps) (nameOf p) i (omega (arith, name-below p))
-      ∙ ap (λ (b : Bool). b || eqb i (nameOf p)) (bit-in-mask (λ k. named k ps) 7 0 i (omega arith) l)
+      ∙ ap (λ (b : Bool). b || eqb i (nameOf p)) (bit-in-mask (λ k. named k ps) 8 0 i (omega arith) l)
       ∙ ap (λ (b : Bool). named i ps || b) (same-either-way i (nameOf p))
-      ∙ sym (bit-in-mask (λ k. named k (ps ++ (p ∷ []))) 7 0 i (omega arith) l ∙ any-more p (λ q. eqb (nameOf q) i) ps))
+      ∙ sym (bit-in-mask (λ k. named k (ps ++ (p ∷ []))) 8 0 i (omega arith) l ∙ any-more p (λ q. eqb (nameOf q) i) ps))
 
   part-step : taken (partsGiven ps) (partAs p) ≡ partsGiven (ps ++ (p ∷ []))
   unfolding taken partsGiven

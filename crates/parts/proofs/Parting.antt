@@ -3,8 +3,8 @@ use mathlib.Core.List.{List}
 use mathlib.Core.Option.{Option, none, some}
 use mathlib.Core.Path.{_≡_, refl}
 use Prim.Native.Nat.{ℕ}
-use Rattle.entries.specs.Lists.{daysAs, numbersAs}
-use Rattle.sheet.specs.Form.{Entry, byDay, byMonthDay, bySetPos}
+use Rattle.entries.specs.Lists.{daysAs, numbersAs, monthsAs}
+use Rattle.sheet.specs.Form.{Entry, byDay, byMonthDay, bySetPos, byMonth}
 use Rattle.sheet.specs.Words.{Signed}
 use Rattle.words.specs.Answers.{madeRead}
 use Rattle.parts.specs.Values.{partAs, partedAs}
@@ -25,6 +25,10 @@ unfoldable pub positionsNumbered : Listed → Parted
 positionsNumbered (Listed.Is d c) = Parted.Is (Part.Positions d) c
 positionsNumbered Listed.Not = Parted.Not
 
+unfoldable pub monthsNumbered : Listed → Parted
+monthsNumbered (Listed.Is d c) = Parted.Is (Part.Months d) c
+monthsNumbered Listed.Not = Parted.Not
+
 pub days-parted : (o : Option (List Entry × ℕ)) → daysParted (daysAs o) ≡ partedAs (madeRead byDay o)
 unfolding daysParted partAs
 days-parted none = refl
@@ -39,3 +43,8 @@ pub positions-parted : (o : Option (List Signed × ℕ)) → positionsNumbered (
 unfolding positionsNumbered partAs
 positions-parted none = refl
 positions-parted (some r) = refl
+
+pub months-parted : (o : Option (List ℕ × ℕ)) → monthsNumbered (monthsAs o) ≡ partedAs (madeRead byMonth o)
+unfolding monthsNumbered partAs
+months-parted none = refl
+months-parted (some r) = refl

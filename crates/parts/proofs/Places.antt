@@ -5,8 +5,8 @@ use mathlib.Core.Path.{_≡_, refl}
 use Prim.Native.Nat.{ℕ, _≤_}
 use native.Mathlib.Omega.{arith}
 use lib.Dec.{eqb}
-use Rattle.entries.proofs.Places.{days-after, numbers-after}
-use Rattle.sheet.specs.Form.{frequencyWords, Part, freq, interval, count, until, byDay, byMonthDay, bySetPos}
+use Rattle.entries.proofs.Places.{days-after, numbers-after, months-after}
+use Rattle.sheet.specs.Form.{frequencyWords, Part, freq, interval, count, until, byDay, byMonthDay, bySetPos, byMonth}
 use Rattle.words.proofs.Afters.{Reads, read-none, read-made, read-cond, one-after, number-after, time-after}
 use Rattle.words.specs.Answers.{numberRead, oneAt}
 use Rattle.words.specs.Reads.{numberAt}
@@ -30,7 +30,8 @@ value-after k s at =
     (read-cond P (eqb k 2) _ _ (read-made count P (numberRead (numberAt s at)) (λ n e q. omega (arith, number-after s at n e q)))
     (read-cond P (eqb k 3) _ _ (read-made until P _ (time-after s at))
     (read-cond P (eqb k 4) _ _ (read-made byDay P _ (days-after s at))
-    (read-cond P (eqb k 5) _ _ (read-made byMonthDay P _ (numbers-after s at)) (read-made bySetPos P _ (numbers-after s at)))))))
+    (read-cond P (eqb k 5) _ _ (read-made byMonthDay P _ (numbers-after s at))
+    (read-cond P (eqb k 6) _ _ (read-made bySetPos P _ (numbers-after s at)) (read-made byMonth P _ (months-after s at))))))))
 
 pub part-after : (s : List ℕ) (at : ℕ) (x : Part) (e : ℕ) → partRead s at ≡ some (x, e) → at ≤ e
 part-after s at = by-head (oneAt partHeads s at) refl

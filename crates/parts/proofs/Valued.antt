@@ -7,8 +7,8 @@ use Prim.Native.Nat.{ℕ, zero, suc, _+_, _<_}
 use native.Mathlib.Omega.{arith}
 use lib.Dec.{eqb}
 use lib.ListN.{length, getD, drop}
-use Rattle.entries.proofs.Entries.{days-tied, numbers-tied}
-use Rattle.sheet.specs.Form.{timeOf, entryOf, frequencyWords, frequencyAt, Part, freq, interval, count, until, byDay, byMonthDay, bySetPos, partBy, valueOf}
+use Rattle.entries.proofs.Entries.{days-tied, numbers-tied, months-tied}
+use Rattle.sheet.specs.Form.{timeOf, entryOf, frequencyWords, frequencyAt, Part, freq, interval, count, until, byDay, byMonthDay, bySetPos, byMonth, partBy, valueOf}
 use Rattle.sheet.specs.Words.{wordIn, numberOf, signedOf, pieces, eachOf}
 use Rattle.words.proofs.Choices.{wordOf, prefixFree, without, one-tied}
 use Rattle.words.proofs.Ends.{End, end-byte, end-digits, end-letter}
@@ -38,11 +38,12 @@ frequency-form : (p : List ℕ) → frequencyAt (wordIn frequencyWords p) ≡ ma
 unfolding frequencyWords frequencyAt
 frequency-form p = by-word (wordOf frequencyWords p) refl
   where
-    by-place : (k : ℕ) → k < 3 → frequencyAt k ≡ some (freq (frequencyOf k))
+    by-place : (k : ℕ) → k < 4 → frequencyAt k ≡ some (freq (frequencyOf k))
     by-place zero h = refl
     by-place (suc zero) h = refl
     by-place (suc (suc zero)) h = refl
-    by-place (suc (suc (suc k))) h = absurd (omega arith)
+    by-place (suc (suc (suc zero))) h = refl
+    by-place (suc (suc (suc (suc k)))) h = absurd (omega arith)
 
     by-word : (o : Option ℕ) → wordOf frequencyWords p ≡ o
         → frequencyAt (wordIn frequencyWords p) ≡ made (λ (f : ℕ). freq (frequencyOf f)) o
@@ -54,7 +55,7 @@ module _ (s : List ℕ) (at : ℕ) (p tail : List ℕ) (here : drop at s ≡ p +
       → Tied (made part o) (madeRead part r) at (at + length p)
   value-by part o r t = tied-made part o r at at (at + length p) (omega arith) t
 
-  pub value-tied : (k : ℕ) → k < 7 → Tied (valueOf k p) (valueRead k s at) at (at + length p)
+  pub value-tied : (k : ℕ) → k < 8 → Tied (valueOf k p) (valueRead k s at) at (at + length p)
   unfolding valueOf valueRead
   value-tied zero h =
       rw (frequency-form p)
@@ -69,4 +70,6 @@ module _ (s : List ℕ) (at : ℕ) (p tail : List ℕ) (here : drop at s ≡ p +
       rw (part-made byMonthDay (eachOf signedOf (pieces 44 p))) (value-by byMonthDay _ _ (numbers-tied s at p tail here ends other))
   value-tied (suc (suc (suc (suc (suc (suc zero)))))) h =
       rw (part-made bySetPos (eachOf signedOf (pieces 44 p))) (value-by bySetPos _ _ (numbers-tied s at p tail here ends other))
-  value-tied (suc (suc (suc (suc (suc (suc (suc k))))))) h = absurd (omega arith)
+  value-tied (suc (suc (suc (suc (suc (suc (suc zero))))))) h =
+      rw (part-made byMonth (eachOf numberOf (pieces 44 p))) (value-by byMonth _ _ (months-tied s at p tail here ends other))
+  value-tied (suc (suc (suc (suc (suc (suc (suc (suc k)))))))) h = absurd (omega arith)

@@ -73,13 +73,13 @@ module _ (p q : List ℕ) where
 
     part-unnamed : wordOf partWords q ≡ none → partOf p ≡ none
     unfolding partWords valueOf
-    part-unnamed f = part-form 7 (word-place partWords q none f) ∙ by-cut (cut-of 61 rest)
+    part-unnamed f = part-form 8 (word-place partWords q none f) ∙ by-cut (cut-of 61 rest)
       where
-        by-others : (v : List ℕ) (others : List (List ℕ)) → only (valueOf 7) (v ∷ others) ≡ none
+        by-others : (v : List ℕ) (others : List (List ℕ)) → only (valueOf 8) (v ∷ others) ≡ none
         by-others v [] = refl
         by-others v (o ∷ others) = refl
 
-        by-cut : Cut 61 rest → only (valueOf 7) (pieces 61 rest) ≡ none
+        by-cut : Cut 61 rest → only (valueOf 8) (pieces 61 rest) ≡ none
         by-cut c = rw (c .cut) (by-others (c .piece) (c .others))
 
 -- ---- the readers
@@ -102,7 +102,7 @@ module _ (s : List ℕ) (at : ℕ) (p tail : List ℕ) (here : drop at s ≡ p +
     head : (o : Option ℕ) → wordOf partWords q ≡ o → oneAt partHeads s at ≡ placed (at + length q + 1) o
     head o f = rw heads-are (heads-same 61 s at q whole (rest ++ tail) text partWords words-without ∙ ap (placed (at + length q + 1)) f)
 
-    value-here : (k : ℕ) → k < 7 → Tied (only (valueOf k) (pieces 61 rest)) (valueRead k s (at + length q + 1)) at (at + length p)
+    value-here : (k : ℕ) → k < 8 → Tied (only (valueOf k) (pieces 61 rest)) (valueRead k s (at + length q + 1)) at (at + length p)
     unfolding ValueStop
     value-here k h =
         let n : at + length q + 1 + length rest ≡ at + length p = omega (arith, ap length e, length-append q (61 ∷ rest)) in

@@ -6,7 +6,7 @@ use Prim.Native.Nat.{ℕ, _+_}
 use lib.Dec.{eqb}
 use lib.ListN.{length}
 use Rattle.calendar.specs.Below.{within, anyOf, allOf}
-use Rattle.entries.specs.Lists.{weekdaysGiven, numbersGiven}
+use Rattle.entries.specs.Lists.{weekdaysGiven, numbersGiven, monthsGiven}
 use Rattle.framed.specs.Framed.{frequencyNumber}
 use Rattle.lines.specs.Bytes.{byte}
 use Rattle.masks.specs.Masks.{bit, maskFrom, withBit}
@@ -32,6 +32,7 @@ nameIn (ReadPart.Until good m) = 3
 nameIn (ReadPart.Days d) = 4
 nameIn (ReadPart.MonthDays d) = 5
 nameIn (ReadPart.Positions d) = 6
+nameIn (ReadPart.Months d) = 7
 
 abbrev pub goodIn : ReadPart → Bool
 goodIn (ReadPart.Frequency n) = true
@@ -41,6 +42,7 @@ goodIn (ReadPart.Until good m) = good
 goodIn (ReadPart.Days d) = d .good
 goodIn (ReadPart.MonthDays d) = d .good
 goodIn (ReadPart.Positions d) = d .good
+goodIn (ReadPart.Months d) = d .good
 
 abbrev pub valueGiven : ℕ → Value
 valueGiven n = record { given = true; number = n }
@@ -48,19 +50,21 @@ valueGiven n = record { given = true; number = n }
 -- the value of a part in its place
 unfoldable pub withValue : Parts → ReadPart → Parts
 withValue m (ReadPart.Frequency n) =
-    record { names = m .names; twice = m .twice; good = m .good; frequency = n; interval = m .interval; count = m .count; until = m .until; weekdays = m .weekdays; days = m .days; positions = m .positions }
+    record { names = m .names; twice = m .twice; good = m .good; frequency = n; interval = m .interval; count = m .count; until = m .until; weekdays = m .weekdays; days = m .days; positions = m .positions; months = m .months }
 withValue m (ReadPart.Interval n) =
-    record { names = m .names; twice = m .twice; good = m .good; frequency = m .frequency; interval = n; count = m .count; until = m .until; weekdays = m .weekdays; days = m .days; positions = m .positions }
+    record { names = m .names; twice = m .twice; good = m .good; frequency = m .frequency; interval = n; count = m .count; until = m .until; weekdays = m .weekdays; days = m .days; positions = m .positions; months = m .months }
 withValue m (ReadPart.Count n) =
-    record { names = m .names; twice = m .twice; good = m .good; frequency = m .frequency; interval = m .interval; count = valueGiven n; until = m .until; weekdays = m .weekdays; days = m .days; positions = m .positions }
+    record { names = m .names; twice = m .twice; good = m .good; frequency = m .frequency; interval = m .interval; count = valueGiven n; until = m .until; weekdays = m .weekdays; days = m .days; positions = m .positions; months = m .months }
 withValue m (ReadPart.Until good n) =
-    record { names = m .names; twice = m .twice; good = m .good; frequency = m .frequency; interval = m .interval; count = m .count; until = valueGiven n; weekdays = m .weekdays; days = m .days; positions = m .positions }
+    record { names = m .names; twice = m .twice; good = m .good; frequency = m .frequency; interval = m .interval; count = m .count; until = valueGiven n; weekdays = m .weekdays; days = m .days; positions = m .positions; months = m .months }
 withValue m (ReadPart.Days d) =
-    record { names = m .names; twice = m .twice; good = m .good; frequency = m .frequency; interval = m .interval; count = m .count; until = m .until; weekdays = d; days = m .days; positions = m .positions }
+    record { names = m .names; twice = m .twice; good = m .good; frequency = m .frequency; interval = m .interval; count = m .count; until = m .until; weekdays = d; days = m .days; positions = m .positions; months = m .months }
 withValue m (ReadPart.MonthDays d) =
-    record { names = m .names; twice = m .twice; good = m .good; frequency = m .frequency; interval = m .interval; count = m .count; until = m .until; weekdays = m .weekdays; days = d; positions = m .positions }
+    record { names = m .names; twice = m .twice; good = m .good; frequency = m .frequency; interval = m .interval; count = m .count; until = m .until; weekdays = m .weekdays; days = d; positions = m .positions; months = m .months }
 withValue m (ReadPart.Positions d) =
-    record { names = m .names; twice = m .twice; good = m .good; frequency = m .frequency; interval = m .interval; count = m .count; until = m .until; weekdays = m .weekdays; days = m .days; positions = d }
+    record { names = m .names; twice = m .twice; good = m .good; frequency = m .frequency; interval = m .interval; count = m .count; until = m .until; weekdays = m .weekdays; days = m .days; positions = d; months = m .months }
+withValue m (ReadPart.Months d) =
+    record { names = m .names; twice = m .twice; good = m .good; frequency = m .frequency; interval = m .interval; count = m .count; until = m .until; weekdays = m .weekdays; days = m .days; positions = m .positions; months = d }
 
 -- with one part more: "a part twice"; of one given twice the first counts
 unfoldable pub taken : Parts → ReadPart → Parts
@@ -77,6 +81,7 @@ taken m x =
       weekdays = m .weekdays;
       days = m .days;
       positions = m .positions;
+      months = m .months;
     })
     (withValue
     (record {
@@ -90,6 +95,7 @@ taken m x =
       weekdays = m .weekdays;
       days = m .days;
       positions = m .positions;
+      months = m .months;
     })
     x)
 
@@ -110,16 +116,23 @@ abbrev pub daysFrom : Option (List Entry) → Weekdays
 daysFrom none = record { given = false; good = true; ordinal = false; plain = 0; front = 0; back = 0 }
 daysFrom (some es) = weekdaysGiven es
 
+abbrev pub notGiven : Numbers
+notGiven = record { given = false; good = true; front = 0; back = 0 }
+
 abbrev pub numbersFrom : Option (List Signed) → Numbers
-numbersFrom none = record { given = false; good = true; front = 0; back = 0 }
+numbersFrom none = notGiven
 numbersFrom (some ns) = numbersGiven ns
+
+abbrev pub monthsFrom : Option (List ℕ) → Numbers
+monthsFrom none = notGiven
+monthsFrom (some ms) = monthsGiven ms
 
 -- all parts of a rule in numbers
 unfoldable pub partsGiven : List Part → Parts
 partsGiven ps =
     let g = givenOf ps in
     record {
-      names = maskFrom (λ k. anyOf (λ p. eqb (nameOf p) k) ps) 7 0;
+      names = maskFrom (λ k. anyOf (λ p. eqb (nameOf p) k) ps) 8 0;
       twice = givenTwice ps;
       good = allOf partInRange ps;
       frequency = frequencyFrom (g .frequency);
@@ -129,6 +142,7 @@ partsGiven ps =
       weekdays = daysFrom (g .days);
       days = numbersFrom (g .monthDays);
       positions = numbersFrom (g .positions);
+      months = monthsFrom (g .months);
     }
 
 -- "rule parts separated by `;`"

@@ -1,7 +1,7 @@
 // The parts of a rule together.
 ghost use mathlib.Core.List.{[]};
 ghost use mathlib.Core.Path.{_≡_};
-ghost use Rattle.parts.specs.Given.{nameIn, goodIn, valueGiven, withValue, taken, partsGiven, partsAs, partsRead};
+ghost use Rattle.parts.specs.Given.{notGiven, nameIn, goodIn, valueGiven, withValue, taken, partsGiven, partsAs, partsRead};
 use crate::part;
 use crate::part::Part;
 use crate::part::Parted;
@@ -37,7 +37,7 @@ pub struct Parts {
     pub twice: bool,
     // All numbers and dates are in range.
     pub good: bool,
-    // 1 daily, 2 weekly, 3 monthly, 0 where none is given.
+    // 1 daily, 2 weekly, 3 monthly, 4 yearly, 0 where none is given.
     pub frequency: u64,
     pub interval: u64,
     pub count: Value,
@@ -45,6 +45,7 @@ pub struct Parts {
     pub weekdays: Weekdays,
     pub days: Numbers,
     pub positions: Numbers,
+    pub months: Numbers,
 }
 
 pub enum Given {
@@ -63,6 +64,7 @@ fn name_in(x: Part) -> u64
         Part::Days(_) => part::BYDAY,
         Part::MonthDays(_) => part::BYMONTHDAY,
         Part::Positions(_) => part::BYSETPOS,
+        Part::Months(_) => part::BYMONTH,
     }
 }
 
@@ -77,6 +79,7 @@ fn good_in(x: Part) -> bool
         Part::Days(d) => d.good,
         Part::MonthDays(d) => d.good,
         Part::Positions(d) => d.good,
+        Part::Months(d) => d.good,
     }
 }
 
@@ -108,6 +111,9 @@ fn with_value(m: Parts, x: Part) -> Parts
         Part::Positions(d) => {
             r.positions = d;
         }
+        Part::Months(d) => {
+            r.months = d;
+        }
     }
     r
 }
@@ -127,9 +133,22 @@ fn take(m: Parts, x: Part) -> Parts
     with_value(r, x)
 }
 
+// A list that is not there.
+fn not_given() -> Numbers
+    ensures { λ r. ⌜ r ≡ notGiven ⌝ }
+{
+    Numbers {
+        given: false,
+        good: true,
+        front: 0,
+        back: 0,
+    }
+}
+
 fn nothing() -> Parts
     ensures { λ r. ⌜ r ≡ partsGiven [] ⌝ }
 {
+    let none = not_given();
     Parts {
         names: 0,
         twice: false,
@@ -152,18 +171,9 @@ fn nothing() -> Parts
             front: 0,
             back: 0,
         },
-        days: Numbers {
-            given: false,
-            good: true,
-            front: 0,
-            back: 0,
-        },
-        positions: Numbers {
-            given: false,
-            good: true,
-            front: 0,
-            back: 0,
-        },
+        days: none,
+        positions: none,
+        months: none,
     }
 }
 

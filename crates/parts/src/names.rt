@@ -14,6 +14,7 @@ pub(crate) fn frequency_at(s: &[u8], c: Cursor) -> Named
     n = n.or_word(s, c, b"DAILY", 0);
     n = n.or_word(s, c, b"WEEKLY", 1);
     n = n.or_word(s, c, b"MONTHLY", 2);
+    n = n.or_word(s, c, b"YEARLY", 3);
     n
 }
 
@@ -28,5 +29,6 @@ pub(crate) fn name_at(s: &[u8], c: Cursor) -> Named
     n = n.or_word(s, c, b"BYDAY=", part::BYDAY);
     n = n.or_word(s, c, b"BYMONTHDAY=", part::BYMONTHDAY);
     n = n.or_word(s, c, b"BYSETPOS=", part::BYSETPOS);
+    n = n.or_word(s, c, b"BYMONTH=", part::BYMONTH);
     n
 }

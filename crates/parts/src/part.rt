@@ -5,6 +5,7 @@ use crate::names::frequency_at;
 use crate::names::name_at;
 use entries::numbers::Listed;
 use entries::numbers::Numbers;
+use entries::numbers::months_at;
 use entries::numbers::numbers_at;
 use entries::weekdays::Days;
 use entries::weekdays::Weekdays;
@@ -31,8 +32,10 @@ pub(crate) const BYMONTHDAY: u64 = 5;
 
 pub(crate) const BYSETPOS: u64 = 6;
 
+pub(crate) const BYMONTH: u64 = 7;
+
 pub(crate) enum Part {
-    // 1 daily, 2 weekly, 3 monthly.
+    // 1 daily, 2 weekly, 3 monthly, 4 yearly.
     Frequency(u64),
     Interval(u64),
     Count(u64),
@@ -41,6 +44,7 @@ pub(crate) enum Part {
     Days(Weekdays),
     MonthDays(Numbers),
     Positions(Numbers),
+    Months(Numbers),
 }
 
 pub(crate) enum Parted {
@@ -114,6 +118,15 @@ fn by_set_pos(s: &[u8], c: Cursor) -> Parted
     Parted::Is(Part::Positions(positions), next)
 }
 
+fn by_month(s: &[u8], c: Cursor) -> Parted
+    ensures { λ r. ⌜ r ≡ partedAs (valueRead 7 (now (s .entry)) (c .at)) ⌝ }
+{
+    let Listed::Is(months, next) = months_at(s, c) else {
+        return Parted::Not;
+    };
+    Parted::Is(Part::Months(months), next)
+}
+
 pub(crate) fn part_at(s: &[u8], c: Cursor) -> Parted
     ensures { λ r. ⌜ r ≡ partedAs (partRead (now (s .entry)) (c .at)) ⌝ }
 {
@@ -127,6 +140,7 @@ pub(crate) fn part_at(s: &[u8], c: Cursor) -> Parted
         UNTIL => until(s, next),
         BYDAY => by_day(s, next),
         BYMONTHDAY => by_month_day(s, next),
-        _ => by_set_pos(s, next),
+        BYSETPOS => by_set_pos(s, next),
+        _ => by_month(s, next),
     }
 }

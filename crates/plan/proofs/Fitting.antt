@@ -15,12 +15,14 @@ use Rattle.plan.specs.Fits.{frameFields, frameFits}
 use Rattle.plan.specs.Taken.{onlyBits, maskGood, pairGood, ordinalsGood, cronGood, placesGood, frequencyGood, ruleGood, frameGood, isEnd}
 use Rattle.plan.specs.declared.Frame.{Frame}
 
--- one of three tests, each joined with another
-one-of : (a b c x y z : Bool) {G : Type 0} → (a && x || (b && y || c && z)) ≡ true → (a ≡ true → G) → (b ≡ true → G) → (c ≡ true → G) → G
-one-of true b c x y z h p q r = p refl
-one-of false true c x y z h p q r = q refl
-one-of false false true x y z h p q r = r refl
-one-of false false false x y z h p q r = let n : _≡_ {A = ℕ} 0 1 = cc in absurd (omega arith)
+-- one of four tests, each joined with another
+one-of : (a b c d x y z w : Bool) {G : Type 0} → (a && x || (b && y || (c && z || d && w))) ≡ true
+    → (a ≡ true → G) → (b ≡ true → G) → (c ≡ true → G) → (d ≡ true → G) → G
+one-of true b c d x y z w h p q r s = p refl
+one-of false true c d x y z w h p q r s = q refl
+one-of false false true d x y z w h p q r s = r refl
+one-of false false false true x y z w h p q r s = s refl
+one-of false false false false x y z w h p q r s = let n : _≡_ {A = ℕ} 0 1 = cc in absurd (omega arith)
 
 bits-below : (low high m : ℕ) → onlyBits low high m ≡ true → m < 2 ^ (high + 1)
 bits-below low high m h = ltb-true _ _ (both-true (eqb (m % 2 ^ low) 0) _ h .1)
@@ -49,8 +51,8 @@ frequency-below : (f : Rule) → frequencyGood f ≡ true → f .frequency < 256
 unfolding frequencyGood
 frequency-below f h =
     let is : ℕ → Bool = λ n. eqb (f .frequency) n in
-    one-of (is 1) (is 2) (is 3) _ _ _ h (λ a. omega (arith, eqb-true (f .frequency) 1 a)) (λ a. omega (arith, eqb-true (f .frequency) 2 a))
-    (λ a. omega (arith, eqb-true (f .frequency) 3 a))
+    one-of (is 1) (is 2) (is 3) (is 4) _ _ _ _ h (λ a. omega (arith, eqb-true (f .frequency) 1 a)) (λ a. omega (arith, eqb-true (f .frequency) 2 a))
+    (λ a. omega (arith, eqb-true (f .frequency) 3 a)) (λ a. omega (arith, eqb-true (f .frequency) 4 a))
 
 pair-front : (e : Ends) → pairGood e ≡ true → e .front < 4294967296
 pair-front e h = bits-below 1 31 (e .front) (both-true (onlyBits 1 31 (e .front)) _ h .0)
@@ -80,9 +82,11 @@ rule-fits f h =
     let days = both-true (pairGood (f .days)) _ p1 .0 in
     let front = ordinals-below (f .ordinals .front) (both-true _ _ p2 .0) in
     let back = ordinals-below (f .ordinals .back) (both-true _ _ p3 .0) in
-    let positions = both-true (ordinalsGood (f .ordinals .back)) _ p3 .1 in
+    let p4 = both-true (ordinalsGood (f .ordinals .back)) _ p3 .1 in
+    let positions = both-true (pairGood (f .positions)) _ p4 .0 in
+    let months = bits-below 1 12 (f .months) (both-true (pairGood (f .positions)) _ p4 .1) in
     rw
-    (lt-ltb (f .frequency) (256 ^ 1) (omega arith), lt-ltb (f .interval) (256 ^ 2) (omega arith), lt-ltb (f .start) (256 ^ 4) (omega arith), lt-ltb (f .last) (256 ^ 4) (omega arith), lt-ltb (f .weekdays) (256 ^ 1) (omega arith), lt-ltb (f .days .front) (256 ^ 4) (pair-front (f .days) days), lt-ltb (f .days .back) (256 ^ 4) (pair-back (f .days) days), lt-ltb (f .ordinals .front) (256 ^ 5) front, lt-ltb (f .ordinals .back) (256 ^ 5) back, lt-ltb (f .positions .front) (256 ^ 4) (pair-front (f .positions) positions), lt-ltb (f .positions .back) (256 ^ 4) (pair-back (f .positions) positions))
+    (lt-ltb (f .frequency) (256 ^ 1) (omega arith), lt-ltb (f .interval) (256 ^ 2) (omega arith), lt-ltb (f .start) (256 ^ 4) (omega arith), lt-ltb (f .last) (256 ^ 4) (omega arith), lt-ltb (f .weekdays) (256 ^ 1) (omega arith), lt-ltb (f .days .front) (256 ^ 4) (pair-front (f .days) days), lt-ltb (f .days .back) (256 ^ 4) (pair-back (f .days) days), lt-ltb (f .ordinals .front) (256 ^ 5) front, lt-ltb (f .ordinals .back) (256 ^ 5) back, lt-ltb (f .positions .front) (256 ^ 4) (pair-front (f .positions) positions), lt-ltb (f .positions .back) (256 ^ 4) (pair-back (f .positions) positions), lt-ltb (f .months) (256 ^ 2) (omega arith))
 
 -- a frame that may stand before the end frame
 pub good-fits : (f : Frame) → frameGood f ≡ true → isEnd f ≡ false → frameFits f ≡ true

@@ -112,7 +112,7 @@ reads-rule : (f : Rule) → Reads (Frame.Rule f)
 unfolding frameFields frameFrom ruleFrom
 reads-rule f get e =
     rw
-    (ap (nth 0) e, ap (nth 1) e, ap (nth 2) e, ap (nth 3) e, ap (nth 4) e, ap (nth 5) e, ap (nth 6) e, ap (nth 7) e, ap (nth 8) e, ap (nth 9) e, ap (nth 10) e, ap (nth 11) e)
+    (ap (nth 0) e, ap (nth 1) e, ap (nth 2) e, ap (nth 3) e, ap (nth 4) e, ap (nth 5) e, ap (nth 6) e, ap (nth 7) e, ap (nth 8) e, ap (nth 9) e, ap (nth 10) e, ap (nth 11) e, ap (nth 12) e)
 
 reads-extra : (m : ℕ) → Reads (Frame.Extra m)
 unfolding frameFields frameFrom
@@ -187,9 +187,9 @@ module _ (line bytes : List ℕ) (e : lineBytes line ≡ some bytes) where
   unfolding frameLine cronFrom
   is-cron t = by-widths 3 21 (8 ∷ 4 ∷ 4 ∷ 2 ∷ 1 ∷ 1 ∷ []) refl t
 
-  is-rule : (eqb (field bytes 0 1) 4 && eqb (length bytes) 39) ≡ true → frameLine (Frame.Rule (ruleFrom (field bytes))) ≡ line
+  is-rule : (eqb (field bytes 0 1) 4 && eqb (length bytes) 41) ≡ true → frameLine (Frame.Rule (ruleFrom (field bytes))) ≡ line
   unfolding frameLine ruleFrom
-  is-rule t = by-widths 4 39 (1 ∷ 2 ∷ 4 ∷ 4 ∷ 1 ∷ 4 ∷ 4 ∷ 5 ∷ 5 ∷ 4 ∷ 4 ∷ []) refl t
+  is-rule t = by-widths 4 41 (1 ∷ 2 ∷ 4 ∷ 4 ∷ 1 ∷ 4 ∷ 4 ∷ 5 ∷ 5 ∷ 4 ∷ 4 ∷ 2 ∷ []) refl t
 
   is-extra : (eqb (field bytes 0 1) 5 && eqb (length bytes) 5) ≡ true → frameLine (Frame.Extra (field bytes 1 4)) ≡ line
   unfolding frameLine

@@ -6,6 +6,7 @@ use native.Mathlib.Nat.{mod-add-mod}
 use native.Mathlib.Numerals.{add-one}
 use native.Mathlib.Omega.{arith}
 use lib.ListN.{length, getD, set, length-append}
+use Rattle.frames.specs.Kinds.{rowNumbers}
 use Rattle.hex.proofs.Fields.{hexes, widths, total}
 use Rattle.hex.proofs.Puts.{length-put, put-then, set-is-put}
 use Rattle.hex.specs.Hex.{Field, hexOf, putAt}
@@ -49,14 +50,14 @@ row-size (Frame.Excepted m) = refl
 row-size (Frame.End n) = refl
 
 -- one number more
-pub next-pair : (sizes row : List ℕ) (i : ℕ) → i < 16
+pub next-pair : (sizes row : List ℕ) (i : ℕ) → i < rowNumbers
     → pairsAt sizes row i ≡ (getD sizes i 0, getD row i 0) ∷ pairsAt sizes row (i + 1)
 unfolding pairsAt pairsFrom
-next-pair sizes row i h = let n : 16 - i ≡ suc (16 - (i + 1)) = omega arith in rw (n, add-one i)
+next-pair sizes row i h = let n : rowNumbers - i ≡ suc (rowNumbers - (i + 1)) = omega arith in rw (n, add-one i)
 
-pub no-pair : (sizes row : List ℕ) (i : ℕ) → 16 ≤ i → pairsAt sizes row i ≡ []
+pub no-pair : (sizes row : List ℕ) (i : ℕ) → rowNumbers ≤ i → pairsAt sizes row i ≡ []
 unfolding pairsAt pairsFrom
-no-pair sizes row i h = let n : 16 - i ≡ 0 = omega arith in rw n
+no-pair sizes row i h = let n : rowNumbers - i ≡ 0 = omega arith in rw n
 
 -- and the LF
 pub line-end-put : (f : Frame) (l : List ℕ) (at : ℕ) → at + length (frameLine f) < length l
@@ -70,7 +71,7 @@ pub whole-length : (f : Frame) → length (wholeLine f) ≡ length (frameLine f)
 whole-length f = length-append (frameLine f) (10 ∷ [])
 
 -- no line is longer than a rule's
-pub line-short : (f : Frame) → length (frameLine f) ≤ 78
+pub line-short : (f : Frame) → length (frameLine f) ≤ 82
 unfolding frameLine hexOf
 line-short (Frame.Offset o) = omega arith
 line-short (Frame.Change t) = omega arith

@@ -31,11 +31,11 @@ module _ (g h : ℕ → ℕ → ℕ) (n : ℕ) (same : (at k : ℕ) → at + k �
       simp
       (same 1 8 (omega arith) (omega arith), same 9 4 (omega arith) (omega arith), same 13 4 (omega arith) (omega arith), same 17 2 (omega arith) (omega arith), same 19 1 (omega arith) (omega arith), same 20 1 (omega arith) (omega arith))
 
-  same-rule : n ≡ 39 → ruleFrom g ≡ ruleFrom h
+  same-rule : n ≡ 41 → ruleFrom g ≡ ruleFrom h
   unfolding ruleFrom
   same-rule s =
       simp
-      (same 1 1 (omega arith) (omega arith), same 2 2 (omega arith) (omega arith), same 4 4 (omega arith) (omega arith), same 8 4 (omega arith) (omega arith), same 12 1 (omega arith) (omega arith), same 13 4 (omega arith) (omega arith), same 17 4 (omega arith) (omega arith), same 21 5 (omega arith) (omega arith), same 26 5 (omega arith) (omega arith), same 31 4 (omega arith) (omega arith), same 35 4 (omega arith) (omega arith))
+      (same 1 1 (omega arith) (omega arith), same 2 2 (omega arith) (omega arith), same 4 4 (omega arith) (omega arith), same 8 4 (omega arith) (omega arith), same 12 1 (omega arith) (omega arith), same 13 4 (omega arith) (omega arith), same 17 4 (omega arith) (omega arith), same 21 5 (omega arith) (omega arith), same 26 5 (omega arith) (omega arith), same 31 4 (omega arith) (omega arith), same 35 4 (omega arith) (omega arith), same 39 2 (omega arith) (omega arith))
 
   same-frame : g 0 1 ≡ h 0 1 → frameFrom g n ≡ frameFrom h n
   unfolding frameFrom
@@ -46,7 +46,7 @@ module _ (g h : ℕ → ℕ → ℕ) (n : ℕ) (same : (at k : ℕ) → at + k �
       (either-way (is 1 3) (λ t. let s = size 1 3 t in rw (same 1 2 (omega arith) (omega arith)))
       (either-way (is 2 7) (λ t. let s = size 2 7 t in rw (same 1 4 (omega arith) (omega arith), same 5 2 (omega arith) (omega arith)))
       (either-way (is 3 21) (λ t. rw (same-cron (size 3 21 t)))
-      (either-way (is 4 39) (λ t. rw (same-rule (size 4 39 t)))
+      (either-way (is 4 41) (λ t. rw (same-rule (size 4 41 t)))
       (either-way (is 5 5) (λ t. let s = size 5 5 t in rw (same 1 4 (omega arith) (omega arith)))
       (either-way (is 6 5) (λ t. let s = size 6 5 t in rw (same 1 4 (omega arith) (omega arith)))
       (either-way (is 255 2) (λ t. let s = size 255 2 t in rw (same 1 1 (omega arith) (omega arith))) refl)))))))

@@ -49,6 +49,7 @@ thirds =
       days = record { front = 2 ^ 31; back = 0 };
       ordinals = record { front = 0; back = 0 };
       positions = record { front = 0; back = 0 };
+      months = 0;
     })
     ∷ []
 
@@ -71,6 +72,7 @@ workdays =
       days = record { front = 0; back = 0 };
       ordinals = record { front = 0; back = 0 };
       positions = record { front = 0; back = 2 };
+      months = 0;
     })
     ∷ []
 

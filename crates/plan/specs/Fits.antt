@@ -5,7 +5,8 @@ use Prim.Native.Nat.{ℕ, zero, suc, _-_}
 use lib.ListN.{getD}
 use Rattle.calendar.specs.Below.{allOf}
 use Rattle.hex.specs.Hex.{Field, fits}
-use Rattle.plan.specs.Rows.{sixteen}
+use Rattle.plan.specs.Rows.{asRow}
+use Rattle.frames.specs.Kinds.{rowNumbers}
 use Rattle.plan.specs.declared.Frame.{Frame}
 
 unfoldable pub frameFields : Frame → List Field
@@ -24,6 +25,7 @@ frameFields (Frame.Rule f) =
     ∷ (5, f .ordinals .back)
     ∷ (4, f .positions .front)
     ∷ (4, f .positions .back)
+    ∷ (2, f .months)
     ∷ []
 frameFields (Frame.Extra m) = (4, m) ∷ []
 frameFields (Frame.Excepted m) = (4, m) ∷ []
@@ -33,16 +35,16 @@ frameFields (Frame.End n) = (1, n) ∷ []
 unfoldable pub frameFits : Frame → Bool
 frameFits f = allOf fits (frameFields f)
 
--- the bytes of the kind and of each field, as sixteen numbers
+-- the bytes of the kind and of each field, as a row
 unfoldable pub frameWidths : Frame → List ℕ
 unfolding frameFields
-frameWidths f = sixteen (1 ∷ map (λ (p : Field). p .0) (frameFields f))
+frameWidths f = asRow (1 ∷ map (λ (p : Field). p .0) (frameFields f))
 
 -- n numbers from place i on, each with its bytes
 unfoldable pub pairsFrom : List ℕ → List ℕ → ℕ → ℕ → List Field
 pairsFrom sizes row zero i = []
 pairsFrom sizes row (suc n) i = (getD sizes i 0, getD row i 0) ∷ pairsFrom sizes row n (suc i)
 
--- those of sixteen from place i on
+-- those of a row from place i on
 unfoldable pub pairsAt : List ℕ → List ℕ → ℕ → List Field
-pairsAt sizes row i = pairsFrom sizes row (16 - i) i
+pairsAt sizes row i = pairsFrom sizes row (rowNumbers - i) i

@@ -1,21 +1,21 @@
--- A frame as the search holds it: sixteen numbers, the first its kind, then its fields in order, then zeros.
+-- A frame as the search holds it: a row of numbers, the first its kind, then its fields in order, then zeros.
 use mathlib.Core.Bool.{cond}
 use mathlib.Core.List.{List, [], _∷_, _++_}
 use Prim.Native.Nat.{ℕ}
 use lib.ListN.{getD, take, replicate}
-use Rattle.frames.specs.Kinds.{offsetKind, changeKind, cronKind, ruleKind, extraKind, exceptedKind, endKind, isKind}
+use Rattle.frames.specs.Kinds.{offsetKind, changeKind, cronKind, ruleKind, extraKind, exceptedKind, endKind, rowNumbers, isKind}
 use Rattle.frames.specs.Numbers.{cronOf, ruleOf, minuteIn}
 use Rattle.plan.specs.declared.Frame.{Frame}
 
-abbrev pub sixteen : List ℕ → List ℕ
-sixteen l = take 16 (l ++ replicate 16 0)
+abbrev pub asRow : List ℕ → List ℕ
+asRow l = take rowNumbers (l ++ replicate rowNumbers 0)
 
 unfoldable pub rowOf : Frame → List ℕ
-rowOf (Frame.Offset o) = sixteen (offsetKind ∷ o ∷ [])
-rowOf (Frame.Change t) = sixteen (changeKind ∷ t .at ∷ t .offset ∷ [])
-rowOf (Frame.Cron f) = sixteen (cronKind ∷ f .minutes ∷ f .hours ∷ f .days ∷ f .months ∷ f .weekdays ∷ f .flags ∷ [])
+rowOf (Frame.Offset o) = asRow (offsetKind ∷ o ∷ [])
+rowOf (Frame.Change t) = asRow (changeKind ∷ t .at ∷ t .offset ∷ [])
+rowOf (Frame.Cron f) = asRow (cronKind ∷ f .minutes ∷ f .hours ∷ f .days ∷ f .months ∷ f .weekdays ∷ f .flags ∷ [])
 rowOf (Frame.Rule f) =
-    sixteen
+    asRow
     (ruleKind
     ∷ f .frequency
     ∷ f .interval
@@ -28,10 +28,11 @@ rowOf (Frame.Rule f) =
     ∷ f .ordinals .back
     ∷ f .positions .front
     ∷ f .positions .back
+    ∷ f .months
     ∷ [])
-rowOf (Frame.Extra m) = sixteen (extraKind ∷ m ∷ [])
-rowOf (Frame.Excepted m) = sixteen (exceptedKind ∷ m ∷ [])
-rowOf (Frame.End n) = sixteen (endKind ∷ n ∷ [])
+rowOf (Frame.Extra m) = asRow (extraKind ∷ m ∷ [])
+rowOf (Frame.Excepted m) = asRow (exceptedKind ∷ m ∷ [])
+rowOf (Frame.End n) = asRow (endKind ∷ n ∷ [])
 
 -- the frame that a row holds
 unfoldable pub frameIn : List ℕ → Frame

@@ -13,7 +13,7 @@ use Rattle.frames.specs.declared.Rule.{Rule}
 use Rattle.lines.specs.Lines.{linesOf}
 use Rattle.masks.specs.Masks.{bit}
 use Rattle.zone.specs.Zone.{offsetInRange, underLimits, inWindow, inRange, mostChanges, distance}
-use Rattle.frames.specs.Kinds.{mostFrames, isDaily, isWeekly, isMonthly}
+use Rattle.frames.specs.Kinds.{mostFrames, isDaily, isWeekly, isMonthly, isYearly}
 use Rattle.plan.specs.Text.{lineFrame}
 use Rattle.plan.specs.declared.Frame.{Frame}
 
@@ -39,7 +39,7 @@ cronGood f =
     && (ltb (f .flags) 4
     && ((bit (f .flags) 0 || eqb (f .days) (fullMask 1 31)) && (bit (f .flags) 1 || eqb (f .weekdays) (fullMask 0 6))))))))
 
--- "mask bits only in named places": a pair with bits 1 to 31, and five weekday masks
+-- "mask bits only in named places": a pair with bits 1 to 31, and five weekday masks; T-01: of the months "bits 1 to 12 only"
 abbrev pub pairGood : Ends → Bool
 pairGood e = onlyBits 1 31 (e .front) && onlyBits 1 31 (e .back)
 
@@ -52,14 +52,21 @@ ordinalsGood g =
 unfoldable pub placesGood : Rule → Bool
 placesGood f =
     onlyBits 0 6 (f .weekdays)
-    && (pairGood (f .days) && (ordinalsGood (f .ordinals .front) && (ordinalsGood (f .ordinals .back) && pairGood (f .positions))))
+    && (pairGood (f .days)
+    && (ordinalsGood (f .ordinals .front) && (ordinalsGood (f .ordinals .back) && (pairGood (f .positions) && onlyBits 1 12 (f .months)))))
 
--- "daily: ordinals and positions zero; weekly: weekday mask set, all else after it zero; monthly: at least one month day or weekday set"
+-- a month day or a weekday is set
+abbrev pub anyDay : Rule → Bool
+anyDay f = not (eqb (f .weekdays) 0 && (noLimit (f .days) && noLimit (f .ordinals)))
+
+-- "daily: ordinals and positions zero; weekly: weekday mask set, all else after it zero; monthly: at least one month day or weekday set";
+-- T-01: the month mask is "free in every frequency", "a yearly frame is taken only with a month day or weekday set, and with a month set where an ordinal is"
 unfoldable pub frequencyGood : Rule → Bool
 frequencyGood f =
     isDaily f && (noLimit (f .ordinals) && noLimit (f .positions))
     || (isWeekly f && (ltb 0 (f .weekdays) && (noLimit (f .days) && (noLimit (f .ordinals) && noLimit (f .positions))))
-    || isMonthly f && not (eqb (f .weekdays) 0 && (noLimit (f .days) && noLimit (f .ordinals))))
+    || (isMonthly f && anyDay f
+    || isYearly f && (anyDay f && (noLimit (f .ordinals) || ltb 0 (f .months)))))
 
 -- "interval 1 to 999; local minutes in range; start not above last; start an occurrence"
 unfoldable pub ruleGood : Rule → Bool

@@ -46,7 +46,7 @@ frameLine (Frame.Rule f) =
     ++ (hexOf 4 (f .days .front)
     ++ (hexOf 4 (f .days .back)
     ++ (hexOf 5 (f .ordinals .front)
-    ++ (hexOf 5 (f .ordinals .back) ++ (hexOf 4 (f .positions .front) ++ hexOf 4 (f .positions .back)))))))))))
+    ++ (hexOf 5 (f .ordinals .back) ++ (hexOf 4 (f .positions .front) ++ (hexOf 4 (f .positions .back) ++ hexOf 2 (f .months))))))))))))
 frameLine (Frame.Extra m) = hexOf 1 5 ++ hexOf 4 m
 frameLine (Frame.Excepted m) = hexOf 1 6 ++ hexOf 4 m
 frameLine (Frame.End n) = hexOf 1 255 ++ hexOf 1 n
@@ -86,6 +86,7 @@ ruleFrom get =
       days = endsFrom get 13 4;
       ordinals = endsFrom get 21 5;
       positions = endsFrom get 31 4;
+      months = get 39 2;
     }
 
 -- a frame of the listed kinds, each with its length: n bytes, by their fields
@@ -95,7 +96,7 @@ frameFrom get n =
     cond (is offsetKind 3) (some (Frame.Offset (movedUp get 1 2)))
     (cond (is changeKind 7) (some (Frame.Change (changeFrom get)))
     (cond (is cronKind 21) (some (Frame.Cron (cronFrom get)))
-    (cond (is ruleKind 39) (some (Frame.Rule (ruleFrom get)))
+    (cond (is ruleKind 41) (some (Frame.Rule (ruleFrom get)))
     (cond (is extraKind 5) (some (Frame.Extra (get 1 4)))
     (cond (is exceptedKind 5) (some (Frame.Excepted (get 1 4))) (cond (is endKind 2) (some (Frame.End (get 1 1))) none))))))
 

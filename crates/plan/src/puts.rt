@@ -28,7 +28,7 @@ pub(crate) fn size_of(frame: Frame) -> usize
         Frame::Offset(_) => 6,
         Frame::Change(_) => 14,
         Frame::Cron(_) => 42,
-        Frame::Rule(_) => 78,
+        Frame::Rule(_) => 82,
         Frame::Extra(_) => 10,
         Frame::Excepted(_) => 10,
         Frame::End(_) => 4,
@@ -40,13 +40,13 @@ pub(crate) fn widths_of(frame: Frame) -> [usize; NUMBERS]
     ensures { λ r. ⌜ r ≡ frameWidths frame ⌝ }
 {
     match frame {
-        Frame::Offset(_) => [1, 2, 0, 0, 0, 0, 0, 0, 0, 0, 0, 0, 0, 0, 0, 0],
-        Frame::Change(_) => [1, 4, 2, 0, 0, 0, 0, 0, 0, 0, 0, 0, 0, 0, 0, 0],
-        Frame::Cron(_) => [1, 8, 4, 4, 2, 1, 1, 0, 0, 0, 0, 0, 0, 0, 0, 0],
-        Frame::Rule(_) => [1, 1, 2, 4, 4, 1, 4, 4, 5, 5, 4, 4, 0, 0, 0, 0],
-        Frame::Extra(_) => [1, 4, 0, 0, 0, 0, 0, 0, 0, 0, 0, 0, 0, 0, 0, 0],
-        Frame::Excepted(_) => [1, 4, 0, 0, 0, 0, 0, 0, 0, 0, 0, 0, 0, 0, 0, 0],
-        Frame::End(_) => [1, 1, 0, 0, 0, 0, 0, 0, 0, 0, 0, 0, 0, 0, 0, 0],
+        Frame::Offset(_) => [1, 2, 0, 0, 0, 0, 0, 0, 0, 0, 0, 0, 0, 0, 0, 0, 0, 0],
+        Frame::Change(_) => [1, 4, 2, 0, 0, 0, 0, 0, 0, 0, 0, 0, 0, 0, 0, 0, 0, 0],
+        Frame::Cron(_) => [1, 8, 4, 4, 2, 1, 1, 0, 0, 0, 0, 0, 0, 0, 0, 0, 0, 0],
+        Frame::Rule(_) => [1, 1, 2, 4, 4, 1, 4, 4, 5, 5, 4, 4, 2, 0, 0, 0, 0, 0],
+        Frame::Extra(_) => [1, 4, 0, 0, 0, 0, 0, 0, 0, 0, 0, 0, 0, 0, 0, 0, 0, 0],
+        Frame::Excepted(_) => [1, 4, 0, 0, 0, 0, 0, 0, 0, 0, 0, 0, 0, 0, 0, 0, 0, 0],
+        Frame::End(_) => [1, 1, 0, 0, 0, 0, 0, 0, 0, 0, 0, 0, 0, 0, 0, 0, 0, 0],
     }
 }
 

@@ -5,7 +5,7 @@ ghost use Prim.Native.Nat.{_+_, _/_, _≤_};
 ghost use lib.ListN.{length};
 ghost use Rattle.hex.specs.Hex.{numberAt, putAt, pastPut};
 ghost use Rattle.plan.specs.Read.{lineOf, lineRead};
-ghost use Rattle.plan.specs.Rows.{sixteen, rowOf, frameIn};
+ghost use Rattle.plan.specs.Rows.{asRow, rowOf, frameIn};
 ghost use Rattle.plan.specs.Text.{wholeLine, movedUp, changeFrom, cronFrom, endsFrom, ruleFrom, frameFrom};
 use crate::Frame;
 use crate::puts;
@@ -73,6 +73,7 @@ fn rule_of(line: &[u8]) -> Rule
         days: ends_at(line, 13, 4),
         ordinals: ends_at(line, 21, 5),
         positions: ends_at(line, 31, 4),
+        months: hex::number(line, 39, 2),
     }
 }
 
@@ -100,7 +101,7 @@ fn frame_of(line: &[u8]) -> Line
     if both(kind == kinds::CRON, n == 21) {
         return Line::Is(Frame::Cron(cron_of(line)));
     }
-    if both(kind == kinds::RULE, n == 39) {
+    if both(kind == kinds::RULE, n == 41) {
         return Line::Is(Frame::Rule(rule_of(line)));
     }
     if both(kind == kinds::EXTRA, n == 5) {
@@ -126,9 +127,9 @@ pub fn read(line: &[u8]) -> Line
 }
 
 fn short_row(kind: u64, a: u64, b: u64) -> Row
-    ensures { λ r. ⌜ r ≡ sixteen (kind ∷ a ∷ b ∷ []) ⌝ }
+    ensures { λ r. ⌜ r ≡ asRow (kind ∷ a ∷ b ∷ []) ⌝ }
 {
-    [kind, a, b, 0, 0, 0, 0, 0, 0, 0, 0, 0, 0, 0, 0, 0]
+    [kind, a, b, 0, 0, 0, 0, 0, 0, 0, 0, 0, 0, 0, 0, 0, 0, 0]
 }
 
 fn cron_row(f: Cron) -> Row
@@ -142,6 +143,8 @@ fn cron_row(f: Cron) -> Row
         f.months,
         f.weekdays,
         f.flags,
+        0,
+        0,
         0,
         0,
         0,
@@ -173,6 +176,8 @@ fn rule_row(f: Rule) -> Row
         o.back,
         p.front,
         p.back,
+        f.months,
+        0,
         0,
         0,
         0,
@@ -180,7 +185,7 @@ fn rule_row(f: Rule) -> Row
     ]
 }
 
-// A frame as the sixteen numbers that the search holds.
+// A frame as the row of numbers that the search holds.
 pub fn row_of(frame: Frame) -> Row
     ensures { λ r. ⌜ r ≡ rowOf frame ⌝ }
 {

@@ -2,7 +2,8 @@
 ghost use mathlib.Core.Path.{_≡_};
 ghost use Prim.Native.Nat.{_/_};
 ghost use Rattle.calendar.specs.Window.{dayMinutes};
-ghost use Rattle.rules.specs.Ruled.{weekdaysIn, daysIn, endless};
+ghost use Rattle.rules.specs.Ruled.{weekdaysIn, ownDayIn, daysIn, monthsIn, endless};
+use crate::neither;
 use calendar::window;
 use calendar::year;
 use frames::Ends;
@@ -21,15 +22,21 @@ fn weekdays_in(p: Parts, start: u64) -> u64
     weekdays.plain
 }
 
+// The default of a monthly or yearly rule is the start's day.
+fn own_day(p: Parts) -> bool
+    ensures { λ r. ⌜ r ≡ ownDayIn p ⌝ }
+{
+    if p.frequency == kinds::MONTHLY {
+        return neither(p);
+    }
+    both(p.frequency == kinds::YEARLY, neither(p))
+}
+
 fn days_in(p: Parts, start: u64) -> Ends
     ensures { λ r. ⌜ r ≡ daysIn p (start / dayMinutes) ⌝ }
 {
-    let weekdays = p.weekdays;
     let days = p.days;
-    if both(
-        p.frequency == kinds::MONTHLY,
-        both(!weekdays.given, !days.given),
-    ) {
+    if own_day(p) {
         let date = window::local_date(start / window::DAY);
         return Ends {
             front: 1 << date.day,
@@ -40,6 +47,20 @@ fn days_in(p: Parts, start: u64) -> Ends
         front: days.front,
         back: days.back,
     }
+}
+
+fn months_in(p: Parts, start: u64) -> u64
+    ensures { λ r. ⌜ r ≡ monthsIn p (start / dayMinutes) ⌝ }
+{
+    let months = p.months;
+    if both(
+        p.frequency == kinds::YEARLY,
+        both(!months.given, neither(p)),
+    ) {
+        let date = window::local_date(start / window::DAY);
+        return 1 << (date.month % 12 + 1);
+    }
+    months.front
 }
 
 // The frame as without COUNT and UNTIL.
@@ -63,5 +84,6 @@ pub(crate) fn endless(p: Parts, start: u64) -> Rule
             front: positions.front,
             back: positions.back,
         },
+        months: months_in(p, start),
     }
 }

@@ -1,6 +1,6 @@
 // A rule's frame from its parts in numbers and its start.
 ghost use mathlib.Core.Path.{_≡_};
-ghost use Rattle.rules.specs.Ruled.{byFrequencyIn, togetherIn, startHeldIn, ruledFrom};
+ghost use Rattle.rules.specs.Ruled.{neitherIn, byFrequencyIn, togetherIn, startHeldIn, ruledFrom};
 use frames::Rule;
 use frames::kinds;
 use frames::truth::both;
@@ -18,20 +18,34 @@ pub enum Ruled {
     NoStart,
 }
 
+// Neither BYDAY nor BYMONTHDAY is given.
+fn neither(p: Parts) -> bool
+    ensures { λ r. ⌜ r ≡ neitherIn p ⌝ }
+{
+    let weekdays = p.weekdays;
+    let days = p.days;
+    both(!weekdays.given, !days.given)
+}
+
 fn by_frequency(p: Parts) -> bool
     ensures { λ r. ⌜ r ≡ byFrequencyIn p ⌝ }
 {
     let weekdays = p.weekdays;
     let days = p.days;
     let positions = p.positions;
+    let months = p.months;
     if p.frequency == kinds::DAILY {
         return both(!weekdays.ordinal, !positions.given);
     }
     if p.frequency == kinds::WEEKLY {
         return both(!weekdays.ordinal, both(!positions.given, !days.given));
     }
+    let placed = !both(positions.given, neither(p));
     if p.frequency == kinds::MONTHLY {
-        return !both(positions.given, both(!weekdays.given, !days.given));
+        return placed;
+    }
+    if p.frequency == kinds::YEARLY {
+        return both(!both(weekdays.ordinal, !months.given), placed);
     }
     false
 }

@@ -1,7 +1,7 @@
 -- The sheets hold what the document says: the definitions are computed.
 use mathlib.Core.Bool.{true}
 use mathlib.Core.Path.{_≡_, refl}
-use Rattle.sheet.specs.Cases.{caseH, caseI, caseJ, caseK, caseL, caseRange, casePlace, caseExcept, caseRanks}
+use Rattle.sheet.specs.Cases.{caseH, caseI, caseJ, caseK, caseL, caseRange, casePlace, caseExcept, caseRanks, caseLeap, caseMonths, caseYearPlaces, caseYearOrdinals, caseElections, caseYearDays, caseYearRanks}
 use Rattle.sheet.specs.Open.{opened}
 
 pub h : caseH ≡ true
@@ -39,3 +39,31 @@ except = refl
 pub ranks : caseRanks ≡ true
 unfolding caseRanks opened
 ranks = refl
+
+pub leap : caseLeap ≡ true
+unfolding caseLeap opened
+leap = refl
+
+pub months : caseMonths ≡ true
+unfolding caseMonths opened
+months = refl
+
+pub year-places : caseYearPlaces ≡ true
+unfolding caseYearPlaces opened
+year-places = refl
+
+pub year-ordinals : caseYearOrdinals ≡ true
+unfolding caseYearOrdinals opened
+year-ordinals = refl
+
+pub elections : caseElections ≡ true
+unfolding caseElections opened
+elections = refl
+
+pub year-days : caseYearDays ≡ true
+unfolding caseYearDays opened
+year-days = refl
+
+pub year-ranks : caseYearRanks ≡ true
+unfolding caseYearRanks opened
+year-ranks = refl

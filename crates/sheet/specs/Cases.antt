@@ -1,5 +1,5 @@
--- Sheets of document 01's bench list and of its "Errors we have seen", and what they hold, as tests that compute.
-use mathlib.Core.Bool.{Bool, _&&_, _||_, Bool·beq}
+-- Sheets of document 01's bench list, of its "Errors we have seen" and of the requests, and what they hold, as tests that compute.
+use mathlib.Core.Bool.{Bool, not, _&&_, _||_, Bool·beq}
 use mathlib.Core.List.{List, []}
 use Prim.Native.Nat.{ℕ, _+_, _*_}
 use Prim.Native.String.{String}
@@ -101,6 +101,48 @@ unfoldable pub caseExcept : Bool
 caseExcept =
     eqb (heldDays (sheet "Z +0000\nR 20260131T0600 FREQ=MONTHLY;COUNT=3\nX 20260331T0600\n") 365 (minute 2026 1 1 6 0)) 2
 
+-- T-01: "29 February comes in leap years only": of the days of 2001 to 2004, on one
+unfoldable pub caseLeap : Bool
+caseLeap =
+    let fs = sheet "Z +0000\nR 20000229T0600 FREQ=YEARLY\n" in
+    sheetHeld fs (minute 2004 2 29 6 0) && eqb (heldDays fs 1461 (minute 2001 1 1 6 0)) 1
+
+-- T-01: "For the other frequencies BYMONTH only limits": of the week of 29 June 2026 Monday and Tuesday are dropped, and July has 13 such days
+unfoldable pub caseMonths : Bool
+caseMonths =
+    let fs = sheet "Z +0000\nR 20250701T0600 FREQ=WEEKLY;BYDAY=MO,TU,WE;BYMONTH=7\n" in
+    eqb (heldDays fs 3 (minute 2026 6 29 6 0)) 1
+    && (sheetHeld fs (minute 2026 7 1 6 0) && eqb (heldDays fs 365 (minute 2026 1 1 6 0)) 13)
+
+-- T-01: "it picks from the year's set": the 9th and the last Monday, of 2026 two days and no other; eight of its Mondays are before the start
+unfoldable pub caseYearPlaces : Bool
+caseYearPlaces =
+    let fs = sheet "Z +0000\nR 20260302T0600 FREQ=YEARLY;BYDAY=MO;BYSETPOS=9,-1\n" in
+    sheetHeld fs (minute 2026 3 2 6 0)
+    && (sheetHeld fs (minute 2026 12 28 6 0)
+    && (sheetHeld fs (minute 2027 3 1 6 0) && eqb (heldDays fs 365 (minute 2026 1 1 6 0)) 2))
+
+-- T-01: "ordinals are allowed, count within a month": the last Sundays of March and October
+unfoldable pub caseYearOrdinals : Bool
+caseYearOrdinals =
+    let fs = sheet "Z +0000\nR 20260329T0600 FREQ=YEARLY;BYMONTH=3,10;BYDAY=-1SU\n" in
+    sheetHeld fs (minute 2026 3 29 6 0)
+    && (sheetHeld fs (minute 2026 10 25 6 0) && eqb (heldDays fs 365 (minute 2026 1 1 6 0)) 2)
+
+-- T-01: "both must allow a day, if both are given", RFC 5545's election days: the Tuesday after a Monday in November of every fourth year
+unfoldable pub caseElections : Bool
+caseElections =
+    let fs = sheet "Z +0000\nR 20001107T0900 FREQ=YEARLY;INTERVAL=4;BYMONTH=11;BYDAY=TU;BYMONTHDAY=2,3,4,5,6,7,8\n" in
+    sheetHeld fs (minute 2004 11 2 9 0)
+    && (eqb (heldDays fs 366 (minute 2004 1 1 9 0)) 1 && eqb (heldDays fs 30 (minute 2005 11 1 9 0)) 0)
+
+-- T-01: "with neither, the start's day in the BYMONTH months", RFC 5545's June and July for ten occurrences: five years
+unfoldable pub caseYearDays : Bool
+caseYearDays =
+    let fs = sheet "Z +0000\nR 20030610T0900 FREQ=YEARLY;COUNT=10;BYMONTH=6,7\n" in
+    sheetHeld fs (minute 2007 7 10 9 0)
+    && (eqb (heldDays fs 365 (minute 2003 1 1 9 0)) 2 && not (sheetHeld fs (minute 2008 6 10 9 0)))
+
 -- "in it the lowest of 2 to 8 that applies": a line as the first of its sheet, or after the example's first two
 alone : String → ℕ
 alone line = lineRefusal first (bytes line)
@@ -119,3 +161,14 @@ caseRanks =
     && (eqb (later "R 20260101T0600 FREQ=DAILY;COUNT=2;UNTIL=20250101T0000") 6
     && (eqb (later "T 20260329T0159 +0200") 7
     && (eqb (later "R 20260101T0600 FREQ=DAILY;BYDAY=FR") 8 && eqb (later "R 20260101T0600 FREQ=DAILY;BYDAY=TH") 0)))))))
+
+-- T-01: "`BYMONTH=` 1 to 12, a comma list"; "need BYMONTH, else refusal 6"; "given BYDAY or BYMONTHDAY"
+unfoldable pub caseYearRanks : Bool
+unfolding later
+caseYearRanks =
+    eqb (later "R 20260329T0600 FREQ=YEARLY;BYMONTH=+3") 3
+    && (eqb (later "R 20260329T0600 FREQ=YEARLY;BYMONTH=3,13") 5
+    && (eqb (later "R 20260329T0600 FREQ=YEARLY;BYMONTH=3;BYMONTH=3") 6
+    && (eqb (later "R 20260329T0600 FREQ=YEARLY;BYDAY=-1SU") 6
+    && (eqb (later "R 20260329T0600 FREQ=YEARLY;BYMONTH=3;BYSETPOS=1") 6
+    && (eqb (later "R 20260329T0600 FREQ=YEARLY;BYMONTH=4") 8 && eqb (later "R 20260329T0600 FREQ=YEARLY;BYMONTH=03,4") 0)))))

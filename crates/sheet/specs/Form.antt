@@ -96,9 +96,9 @@ entryOf s =
     let w = wordIn weekdayWords (drop (length s - 2) s) in
     cond (ltb w 7) (cond (eqb (length front) 0) (some (plain w)) (ordinalEntry (signedOf front) w)) none
 
--- the parts of a rule
+-- the parts of a rule; T-01 added YEARLY and BYMONTH
 pub data Frequency : Type 0 where
-  daily weekly monthly : Frequency
+  daily weekly monthly yearly : Frequency
 
 pub data Part : Type 0 where
   freq : Frequency → Part
@@ -108,22 +108,25 @@ pub data Part : Type 0 where
   byDay : List Entry → Part
   byMonthDay : List Signed → Part
   bySetPos : List Signed → Part
+  byMonth : List ℕ → Part
 
 unfoldable pub frequencyWords : List (List ℕ)
-frequencyWords = bytes "DAILY" ∷ bytes "WEEKLY" ∷ bytes "MONTHLY" ∷ []
+frequencyWords = bytes "DAILY" ∷ bytes "WEEKLY" ∷ bytes "MONTHLY" ∷ bytes "YEARLY" ∷ []
 
 unfoldable pub frequencyAt : ℕ → Option Part
-frequencyAt k = cond (eqb k 0) (some (freq daily)) (cond (eqb k 1) (some (freq weekly)) (cond (eqb k 2) (some (freq monthly)) none))
+frequencyAt k =
+    cond (eqb k 0) (some (freq daily))
+    (cond (eqb k 1) (some (freq weekly)) (cond (eqb k 2) (some (freq monthly)) (cond (eqb k 3) (some (freq yearly)) none)))
 
 -- "Part names and values are upper case and compared byte for byte."
 unfoldable pub partWords : List (List ℕ)
-partWords = bytes "FREQ" ∷ bytes "INTERVAL" ∷ bytes "COUNT" ∷ bytes "UNTIL" ∷ bytes "BYDAY" ∷ bytes "BYMONTHDAY" ∷ bytes "BYSETPOS" ∷ []
+partWords = bytes "FREQ" ∷ bytes "INTERVAL" ∷ bytes "COUNT" ∷ bytes "UNTIL" ∷ bytes "BYDAY" ∷ bytes "BYMONTHDAY" ∷ bytes "BYSETPOS" ∷ bytes "BYMONTH" ∷ []
 
 unfoldable pub partBy : {A : Type 0} → (A → Part) → Option A → Option Part
 partBy part none = none
 partBy part (some a) = some (part a)
 
--- the value of a part by the part's name
+-- the value of a part by the part's name; "`BYMONTH=` 1 to 12, a comma list": numbers without a sign
 unfoldable pub valueOf : ℕ → List ℕ → Option Part
 unfolding frequencyAt partBy
 valueOf k v =
@@ -133,7 +136,8 @@ valueOf k v =
     (cond (eqb k 3) (partBy until (timeOf v))
     (cond (eqb k 4) (partBy byDay (eachOf entryOf (pieces (byte ",") v)))
     (cond (eqb k 5) (partBy byMonthDay (eachOf signedOf (pieces (byte ",") v)))
-    (cond (eqb k 6) (partBy bySetPos (eachOf signedOf (pieces (byte ",") v))) none))))))
+    (cond (eqb k 6) (partBy bySetPos (eachOf signedOf (pieces (byte ",") v)))
+    (cond (eqb k 7) (partBy byMonth (eachOf numberOf (pieces (byte ",") v))) none)))))))
 
 unfoldable pub named : List (List ℕ) → Option Part
 unfolding valueOf

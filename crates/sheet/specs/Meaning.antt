@@ -3,13 +3,13 @@ use mathlib.Core.Bool.{Bool, true, false, cond, not, _&&_, _||_}
 use mathlib.Core.List.{List, [], _∷_}
 use mathlib.Core.Option.{Option, none, some, Option·getD}
 use mathlib.Core.Path.{_≡_}
-use Prim.Native.Nat.{ℕ, _+_, _-_, _/_, _%_}
+use Prim.Native.Nat.{ℕ, _+_, _-_, _*_, _/_, _%_}
 use lib.Dec.{leb, eqb}
 use Rattle.calendar.specs.Below.{within, anyOf, countFrom}
 use Rattle.calendar.specs.Window.{monthFirst, localDate, localWeekday, localWeek, fromEnd, dayMinutes}
 use Rattle.zone.specs.Zone.{Offsets, instantOf, inWindow}
 use Rattle.zone.specs.declared.Transition.{Transition}
-use Rattle.sheet.specs.Form.{Time, Element, one, range, Field, star, list, Entry, plain, ordinal, Frequency, daily, weekly, monthly, Form, zone, change, cron, rule, extra, except}
+use Rattle.sheet.specs.Form.{Time, Element, one, range, Field, star, list, Entry, plain, ordinal, Frequency, daily, weekly, monthly, yearly, Form, zone, change, cron, rule, extra, except}
 use Rattle.sheet.specs.Parts.{Given, givenOf}
 use Rattle.sheet.specs.Range.{minuteOf, instantOfTime, offsetOfShift}
 use Rattle.sheet.specs.Words.{Signed}
@@ -28,6 +28,10 @@ abbrev pub restricted : Field → Bool
 restricted star = false
 restricted (list es) = true
 
+-- the number of a day's month, January 1
+abbrev pub monthNumber : ℕ → ℕ
+monthNumber d = localDate d .month % 12 + 1
+
 -- "A local minute is held if minute, hour and month match and the day does:
 -- if day of month and day of week are both restricted, either suffices; else both must match."
 unfoldable pub cronHolds : Field → Field → Field → Field → Field → ℕ → Bool
@@ -38,26 +42,44 @@ cronHolds minute hour day month weekday m =
     let weekdayOk = fieldHas weekday (localWeekday d) in
     fieldHas minute (t % 60)
     && (fieldHas hour (t / 60)
-    && (fieldHas month (localDate d .month % 12 + 1)
+    && (fieldHas month (monthNumber d)
     && cond (restricted day && restricted weekday) (dayOk || weekdayOk) (dayOk && weekdayOk)))
 
--- the days of the month from its first to d, and from d to its last, that pass a test
-abbrev pub upTo : (ℕ → Bool) → ℕ → ℕ
-upTo test d = countFrom test (localDate d .day) (monthFirst (localDate d .month))
+-- the first month of the period that holds month k, and the first after it; T-01: "For YEARLY the period is the calendar year"
+-- Nothing is counted within a period that is shorter than a month.
+abbrev pub firstMonth : Frequency → ℕ → ℕ
+firstMonth daily k = k
+firstMonth weekly k = k
+firstMonth monthly k = k
+firstMonth yearly k = 12 * (k / 12)
 
-abbrev pub fromOn : (ℕ → Bool) → ℕ → ℕ
-fromOn test d = countFrom test (fromEnd d) d
+abbrev pub pastMonth : Frequency → ℕ → ℕ
+pastMonth daily k = k + 1
+pastMonth weekly k = k + 1
+pastMonth monthly k = k + 1
+pastMonth yearly k = 12 * (k / 12) + 12
+
+-- the place of day d among the days of its period that pass a test: from the period's first day on, or from its end
+abbrev pub placeIn : Frequency → Bool → (ℕ → Bool) → ℕ → ℕ
+placeIn f minus test d =
+    let first = monthFirst (firstMonth f (localDate d .month)) in
+    let past = monthFirst (pastMonth f (localDate d .month)) in
+    cond minus (countFrom test (past - d) d) (countFrom test (d + 1 - first) first)
 
 -- "An ordinal weekday is counted within the month, from its end if negative."
 unfoldable pub entryHas : ℕ → Entry → Bool
 entryHas d (plain w) = eqb (localWeekday d) w
 entryHas d (ordinal n w) =
     let isDay : ℕ → Bool = λ e. eqb (localWeekday e) w in
-    isDay d && eqb (n .number) (cond (n .minus) (fromOn isDay d) (upTo isDay d))
+    isDay d && eqb (n .number) (placeIn monthly (n .minus) isDay d)
 
 -- "`-1` as month day is the last day."
 unfoldable pub monthDayHas : ℕ → Signed → Bool
 monthDayHas d n = eqb (n .number) (cond (n .minus) (fromEnd d) (localDate d .day))
+
+-- T-01: "`BYMONTH=` 1 to 12"
+unfoldable pub monthHas : ℕ → ℕ → Bool
+monthHas d n = eqb (monthNumber d) n
 
 -- "A weekday list matches if any entry does."
 abbrev pub allows : {A : Type 0} → (A → Bool) → Option (List A) → Bool
@@ -77,24 +99,34 @@ monthDayOr none (some ns) first d = anyOf (monthDayHas d) ns
 monthDayOr (some es) none first d = anyOf (entryHas d) es
 monthDayOr (some es) (some ns) first d = anyOf (entryHas d) es && anyOf (monthDayHas d) ns
 
+unfoldable pub monthOr : Option (List Entry) → Option (List Signed) → Option (List ℕ) → ℕ → ℕ → Bool
+monthOr none none none first d = monthHas d (monthNumber first)
+monthOr none none (some ms) first d = anyOf (monthHas d) ms
+monthOr none (some ns) ms first d = allows (monthHas d) ms
+monthOr (some es) ns ms first d = allows (monthHas d) ms
+
 -- "DAILY: the day, if BYDAY and BYMONTHDAY, where given, both allow it. WEEKLY: the days of BYDAY, by default the start's weekday.
 -- MONTHLY: days that satisfy each of BYDAY and BYMONTHDAY that is given; with neither, the start's day of month."
+-- T-01: "For the other frequencies BYMONTH only limits. For YEARLY .. BYMONTHDAY and BYDAY (both must allow a day, if both are given) pick days
+-- in the months of BYMONTH, or in all months without it; with neither, the start's day in the BYMONTH months, or in the start's month."
 unfoldable pub daySet : Frequency → Given → ℕ → ℕ → Bool
-unfolding bothAllow weekdayOr monthDayOr
-daySet daily g first d = bothAllow g d
-daySet weekly g first d = weekdayOr (g .days) first d
-daySet monthly g first d = monthDayOr (g .days) (g .monthDays) first d
+unfolding bothAllow weekdayOr monthDayOr monthOr
+daySet daily g first d = allows (monthHas d) (g .months) && bothAllow g d
+daySet weekly g first d = allows (monthHas d) (g .months) && weekdayOr (g .days) first d
+daySet monthly g first d = allows (monthHas d) (g .months) && monthDayOr (g .days) (g .monthDays) first d
+daySet yearly g first d = monthOr (g .days) (g .monthDays) (g .months) first d && monthDayOr (g .days) (g .monthDays) first d
 
 -- "BYSETPOS picks from the period's whole rising day set, days before the start included; a place that does not exist picks nothing."
--- It goes with MONTHLY alone.
+-- It goes with MONTHLY, and by T-01 with YEARLY: "it picks from the year's set".
 unfoldable pub positionHas : Frequency → Given → ℕ → ℕ → Signed → Bool
-positionHas f g first d n = eqb (n .number) (cond (n .minus) (fromOn (daySet f g first) d) (upTo (daySet f g first) d))
+positionHas f g first d n = eqb (n .number) (placeIn f (n .minus) (daySet f g first) d)
 
--- "Periods are days, Monday weeks or months."
+-- "Periods are days, Monday weeks or months", and calendar years.
 abbrev pub periodOf : Frequency → ℕ → ℕ
 periodOf daily d = d
 periodOf weekly d = localWeek d
 periodOf monthly d = localDate d .month
+periodOf yearly d = localDate d .month / 12
 
 -- an occurrence's day: "Period 0 holds the start; every INTERVAL-th from there counts", and "drop what is before the start"
 unfoldable pub occursOn : Frequency → Given → ℕ → ℕ → Bool

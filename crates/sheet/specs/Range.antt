@@ -6,7 +6,7 @@ use Rattle.calendar.specs.Below.{within, allOf}
 use Rattle.calendar.specs.Calendar.{leapYear, monthLength, dayOf}
 use Rattle.calendar.specs.Window.{dayMinutes, windowFirst}
 use Rattle.zone.specs.Zone.{bias}
-use Rattle.sheet.specs.Form.{Time, Shift, Element, one, range, Field, star, list, Entry, plain, ordinal, Part, freq, interval, count, until, byDay, byMonthDay, bySetPos, Form, zone, change, cron, rule, extra, except}
+use Rattle.sheet.specs.Form.{Time, Shift, Element, one, range, Field, star, list, Entry, plain, ordinal, Part, freq, interval, count, until, byDay, byMonthDay, bySetPos, byMonth, Form, zone, change, cron, rule, extra, except}
 use Rattle.sheet.specs.Words.{Signed}
 
 -- "year 2000 to 2099", and a date and a time of day that exist
@@ -46,13 +46,16 @@ unfoldable pub fieldInRange : ℕ → ℕ → Field → Bool
 fieldInRange low high star = true
 fieldInRange low high (list es) = allOf (elementInRange low high) es
 
--- "signed ordinal −5 to 5 without 0"; "−31 to 31 without 0"
+-- "signed ordinal −5 to 5 without 0"; "−31 to 31 without 0"; T-01: "`BYMONTH=` 1 to 12"
 unfoldable pub entryInRange : Entry → Bool
 entryInRange (plain w) = true
 entryInRange (ordinal n w) = within 1 5 (n .number)
 
 abbrev pub dayNumberInRange : Signed → Bool
 dayNumberInRange n = within 1 31 (n .number)
+
+abbrev pub monthInRange : ℕ → Bool
+monthInRange n = within 1 12 n
 
 unfoldable pub partInRange : Part → Bool
 partInRange (freq f) = true
@@ -62,6 +65,7 @@ partInRange (until t) = timeInRange t
 partInRange (byDay es) = allOf entryInRange es
 partInRange (byMonthDay ns) = allOf dayNumberInRange ns
 partInRange (bySetPos ns) = allOf dayNumberInRange ns
+partInRange (byMonth ns) = allOf monthInRange ns
 
 -- "minute 0 to 59, hour 0 to 23, day of month 1 to 31, month 1 to 12, day of week 0 to 6"
 unfoldable pub inRange : Form → Bool

@@ -14,7 +14,7 @@ const LENGTHS: [usize; 17] = [
 type Long = (&'static str, &'static [&'static str], &'static str);
 
 /// Taken up to 256 bytes.
-const LISTS: [Long; 14] = [
+const LISTS: [Long; 16] = [
     ("C 1", &[",1", ",01"], " * * * *"),
     ("C 7 1-2", &[",1", ",01", ",13-17"], " * * *"),
     ("C * * 3", &[",3", ",31", ",1-31"], " 1 1"),
@@ -61,10 +61,20 @@ const LISTS: [Long; 14] = [
         &[",1", ",31", ",-31"],
         ";UNTIL=20270101T0000",
     ),
+    (
+        "R 20260131T0600 FREQ=YEARLY;BYMONTH=1",
+        &[",1", ",01", ",12", ",0008"],
+        "",
+    ),
+    (
+        "R 20260131T0600 BYMONTH=11",
+        &[",3", ",01"],
+        ";BYDAY=-1SA,5MO;FREQ=YEARLY",
+    ),
 ];
 
 /// Refused whatever their length: not of a listed form, a number out of range, a part twice, a start that is no occurrence.
-const REFUSED: [Long; 16] = [
+const REFUSED: [Long; 18] = [
     ("Z +0100", &["0"], ""),
     ("Z +0100", &[" "], ""),
     ("Z ", &[" "], "+0100"),
@@ -80,6 +90,12 @@ const REFUSED: [Long; 16] = [
     ("R 20260131T0600 FREQ=DAILY", &[";INTERVAL=1"], ""),
     ("R 20260131T0600 FREQ=DAILY", &[";"], ""),
     ("R 20260131T0600 FREQ=WEEKLY;BYDAY=SA", &[",MO"], ",1MO"),
+    (
+        "R 20260131T0600 FREQ=YEARLY;BYMONTH=1",
+        &[",1", ",12"],
+        ",13",
+    ),
+    ("R 20260131T0600 FREQ=DAILY;BYMONTH=2", &[",2", ",12"], ""),
     (
         "R 20260131T0600 FREQ=MONTHLY;BYMONTHDAY=30",
         &[",1", ",-3"],

@@ -2,15 +2,14 @@
 
 use super::well_formed::RULES;
 use super::{contexts, Case};
-use crate::answer_lines::{answer_in, Context};
-use crate::generate::offset_text;
+use crate::generate::{self, offset_text};
 use crate::local::{is_local_minute, minute_of, written, LAST_MINUTE, MINUTES_OF_A_DAY};
 use crate::meaning::rule::occurrences;
 use crate::sheet::line::Line;
 use crate::sheet::{read_line, CRON_FIELDS};
 use crate::zone::{LEAST_DISTANCE, OFFSETS};
 
-const FREQUENCIES: [&str; 3] = ["FREQ=DAILY", "FREQ=WEEKLY", "FREQ=MONTHLY"];
+const FREQUENCIES: [&str; 4] = ["FREQ=DAILY", "FREQ=WEEKLY", "FREQ=MONTHLY", "FREQ=YEARLY"];
 const WEEKDAYS: [&str; 7] = ["SU", "MO", "TU", "WE", "TH", "FR", "SA"];
 
 /// No digits, one to many, and zeros before them. The last three are 1 where a number is cut to 16, 32 or 64 bits.
@@ -48,13 +47,15 @@ const TIMES: [&str; 25] = [
 ];
 
 /// The places where a time stands.
-const PLACES_OF_A_TIME: [&str; 9] = [
+const PLACES_OF_A_TIME: [&str; 11] = [
     "T {} +0200",
     "D {}",
     "X {}",
     "R {} FREQ=DAILY",
     "R {} FREQ=WEEKLY",
     "R {} FREQ=MONTHLY;COUNT=2",
+    "R {} FREQ=YEARLY;COUNT=2",
+    "R {} BYMONTH=1,2,3,4,12;FREQ=YEARLY",
     "R 20000101T0000 FREQ=DAILY;UNTIL={}",
     "R 20000101T0000 UNTIL={};FREQ=MONTHLY",
     "R {} UNTIL=20500101T0000;FREQ=WEEKLY",
@@ -73,6 +74,8 @@ pub fn all() -> Vec<Case> {
         intervals(),
         digits(),
         signed_numbers(),
+        numbers_of_years(),
+        months(),
         counts(),
         untils(),
         moved_starts(),
@@ -249,17 +252,8 @@ fn rule(start: &str, parts: &str) -> Case {
 
 /// The parts from the first day on that they hold, or from the first day.
 fn started(parts: &str) -> Case {
-    let taken_after = contexts::zone(0);
-    let starts = (0..800).map(|day| written(day * MINUTES_OF_A_DAY + 360));
-    let mut rules = starts.map(|start| rule(&start, parts));
-    let taken = |case: &Case| is_taken(&taken_after, &case.line);
-    rules
-        .find(taken)
-        .unwrap_or_else(|| rule("20000101T0600", parts))
-}
-
-fn is_taken(context: &Context, line: &[u8]) -> bool {
-    answer_in(context, line).is_ok()
+    let found = generate::started(360, parts).map(after_lines);
+    found.unwrap_or_else(|| rule("20000101T0600", parts))
 }
 
 /// Every interval, in *last* by the second occurrence.
@@ -283,6 +277,8 @@ fn digits() -> Vec<Case> {
         "BYDAY=MO;BYSETPOS=",
         "BYMONTHDAY=-1,-",
         "BYDAY=MO,+",
+        "BYMONTH=",
+        "BYMONTH=6,",
     ];
     let mut all = Vec::new();
     for name in names {
@@ -322,6 +318,44 @@ fn signed_numbers() -> Vec<Case> {
     all
 }
 
+/// Positions in a year and ordinals in its months, at both sides of their limits.
+fn numbers_of_years() -> Vec<Case> {
+    let mut all = Vec::new();
+    for number in -33..=33 {
+        all.push(started(&format!(
+            "FREQ=YEARLY;BYDAY=SU,SA;BYSETPOS={number}"
+        )));
+        all.push(started(&format!(
+            "FREQ=YEARLY;BYMONTH=2,11;BYMONTHDAY=1,28,29,30;BYSETPOS={number}"
+        )));
+        all.push(started(&format!("FREQ=YEARLY;BYMONTHDAY={number}")));
+    }
+    for number in -6..=6 {
+        for weekday in WEEKDAYS {
+            let entry = format!("{number}{weekday}");
+            all.push(started(&format!("FREQ=YEARLY;BYMONTH=2,3;BYDAY={entry}")));
+            all.push(started(&format!("FREQ=YEARLY;BYDAY={entry}")));
+        }
+    }
+    all
+}
+
+/// Every month and the numbers beside them, with zeros before them and in lists, in every frequency.
+fn months() -> Vec<Case> {
+    let mut all = Vec::new();
+    for frequency in FREQUENCIES {
+        for month in (0..=14).chain([99, 9_999]) {
+            let zeros = [1, 2, 4, 5].map(|width| format!("{month:0width$}"));
+            let lists = ["12,{}", "{},1", "{},{}", "6,{},7"];
+            let lists = lists.map(|list| list.replace("{}", &month.to_string()));
+            for months in zeros.iter().chain(&lists) {
+                all.push(started(&format!("{frequency};BYMONTH={months}")));
+            }
+        }
+    }
+    all
+}
+
 fn signed_texts(number: i64) -> Vec<String> {
     let signs: &[&str] = match number.signum() {
         0 => &["", "+", "-"],
@@ -351,6 +385,13 @@ fn counts() -> Vec<Case> {
         "FREQ=MONTHLY;BYMONTHDAY=31",
         "FREQ=MONTHLY;BYDAY=TH,SA",
         "FREQ=MONTHLY;BYDAY=-1TH,1SA;BYSETPOS=-1",
+        "FREQ=DAILY;BYMONTH=1,3,4,5,6,7,8,9,12",
+        "FREQ=WEEKLY;BYMONTH=5,8,12",
+        "FREQ=YEARLY",
+        "FREQ=YEARLY;INTERVAL=9",
+        "FREQ=YEARLY;BYDAY=SU,MO,TU,WE,TH,FR,SA",
+        "FREQ=YEARLY;BYMONTH=2,8;BYMONTHDAY=29,-1",
+        "FREQ=YEARLY;BYDAY=TH,SA;BYSETPOS=1,-1,29",
     ];
     let last_day = LAST_MINUTE / MINUTES_OF_A_DAY;
     let mut all = Vec::new();

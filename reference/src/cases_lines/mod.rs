@@ -6,6 +6,7 @@ mod rooms;
 mod rounds;
 mod rules;
 mod well_formed;
+mod years;
 
 pub mod damage;
 pub mod lengths;
@@ -18,8 +19,8 @@ use crate::random::Random;
 /// Rounds for `--times 1`.
 const ROUNDS: u64 = 1_500;
 
-/// Room for every frame's line, of which the longest has 79 bytes, and the most that the driver lends.
-const LEAST_ROOM: i64 = 80;
+/// Room for every frame's line, of which the longest has 83 bytes, and the most that the driver lends.
+const LEAST_ROOM: i64 = 84;
 const MOST_ROOM: i64 = 4_096;
 
 /// A line, without LF, and what stands before it; and the length of the buffer, any that suffices where none is said.
@@ -55,6 +56,7 @@ pub fn cases(seed: u64, times: u64) -> impl Iterator<Item = Case> {
         everywhere(),
         damage::everywhere(),
         rules::all(&mut random),
+        years::all(),
         limits::all(),
         lengths::all(),
         ranks::all(&mut random),

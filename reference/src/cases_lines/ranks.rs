@@ -95,15 +95,15 @@ fn ways_of(tag: char, number: u64) -> usize {
         (5, 'Z') => BAD_OFFSETS.len(),
         (5, 'C') => BAD_FIELDS.len(),
         (5, _) => BAD_TIMES.len(),
-        (6, 'R') => 16,
+        (6, 'R') => 22,
         (7, 'T') => 4,
-        (8, 'R') => 4,
+        (8, 'R') => 6,
         _ => 0,
     }
 }
 
 /// What only a line of this kind can have at its end.
-const OWN_FORMS: [(char, &str); 30] = [
+const OWN_FORMS: [(char, &str); 34] = [
     ('Z', "0"),
     ('Z', " +0100"),
     ('T', "0"),
@@ -121,13 +121,17 @@ const OWN_FORMS: [(char, &str); 30] = [
     ('R', ";INTERVAL=00001"),
     ('R', ";COUNT=10000"),
     ('R', ";COUNT=-1"),
-    ('R', ";FREQ=YEARLY"),
+    ('R', ";FREQ=HOURLY"),
     ('R', ";UNTIL=20270101"),
     ('R', ";UNTIL=20270101T0000Z"),
     ('R', ";BYDAY="),
     ('R', ";BYDAY=+MO"),
     ('R', ";BYMONTHDAY=1,,2"),
     ('R', ";BYSETPOS=,1"),
+    ('R', ";BYMONTH="),
+    ('R', ";BYMONTH=+1"),
+    ('R', ";BYMONTH=1,,2"),
+    ('R', ";BYMONTH=00001"),
     ('D', "Z"),
     ('D', "00"),
     ('D', " 20260105T0600"),
@@ -163,7 +167,7 @@ const BAD_FIELDS: [&str; 10] = [
 ];
 
 /// Numbers out of range, in a part that the rule has or as one more.
-const RULE_NUMBERS: [(&str, &str); 12] = [
+const RULE_NUMBERS: [(&str, &str); 15] = [
     ("INTERVAL", "0"),
     ("INTERVAL", "1000"),
     ("COUNT", "0"),
@@ -176,6 +180,9 @@ const RULE_NUMBERS: [(&str, &str); 12] = [
     ("BYMONTHDAY", "0"),
     ("BYSETPOS", "-32"),
     ("BYSETPOS", "1,+0"),
+    ("BYMONTH", "0"),
+    ("BYMONTH", "13"),
+    ("BYMONTH", "1,9999"),
 ];
 
 /// A line in the making: the words, of a rule then its parts; and faults of the text and of its bytes.
@@ -285,8 +292,9 @@ impl Draft {
     /// Refusal 6.
     fn put_apart(&mut self, way: usize) {
         let frequency = match way {
-            5 | 7 | 9 => "WEEKLY",
-            6 | 8 => "DAILY",
+            5 | 7 | 9 | 20 | 21 => "WEEKLY",
+            6 | 8 | 19 => "DAILY",
+            16 | 17 => "YEARLY",
             _ => "MONTHLY",
         };
         self.add("FREQ", frequency);
@@ -313,7 +321,28 @@ impl Draft {
             12 => self.push(&["COUNT=3", "COUNT=2"]),
             13 => self.push(&["UNTIL=20270101T0000", "UNTIL=20270101T0000"]),
             14 => self.push(&["BYMONTHDAY=5", "BYMONTHDAY=5"]),
-            _ => self.push(&["BYSETPOS=1", "BYSETPOS=1"]),
+            15 => self.push(&["BYSETPOS=1", "BYSETPOS=1"]),
+            _ => self.put_months_apart(way),
+        }
+    }
+
+    /// The same by what T-01 brought.
+    fn put_months_apart(&mut self, way: usize) {
+        match way {
+            16 => {
+                self.remove("BYMONTH");
+                self.add("BYDAY", "1MO");
+            }
+            17 => {
+                self.remove("BYDAY");
+                self.push(&["BYSETPOS=1", "BYMONTH=1"]);
+            }
+            18 => self.push(&["BYMONTH=1", "BYMONTH=1"]),
+            19 | 20 => {
+                self.add("BYDAY", "1MO");
+                self.add("BYMONTH", "1");
+            }
+            _ => self.push(&["BYSETPOS=1", "BYMONTH=1"]),
         }
     }
 
@@ -327,15 +356,20 @@ impl Draft {
         }
     }
 
-    /// Refusal 8: a Tuesday, an end that is a minute or far too early, or both.
+    /// Refusal 8: a Tuesday, an end that is a minute or far too early, or both; other months, and another place in the year.
     fn move_start(&mut self, way: usize) {
-        if way % 2 == 0 {
+        if [0, 2].contains(&way) {
             self.words[1] = "20260106T0600".to_string();
         }
         match way {
             1 => self.push(&["UNTIL=20260105T0559"]),
             2 => self.push(&["UNTIL=20260106T0559"]),
             3 => self.push(&["UNTIL=20000101T0000"]),
+            4 => self.push(&["BYMONTH=2,12"]),
+            5 => {
+                self.add("FREQ", "YEARLY");
+                self.push(&["BYSETPOS=2"]);
+            }
             _ => {}
         }
     }

@@ -28,7 +28,7 @@ const AS_GENERATED: [fn(&mut Random) -> String; 8] = [
 
 /// No word, words that a line is made of, and numbers at both sides of limits.
 const WORDS: &str = " * 0 1 5 6 7 12 13 23 24 31 32 59 60 999 1000 9999 10000 -0 +0 -1 +1 -5 -6 +31 -31 -32 0-0 1-31 \
-    31-1 SU MO 6MO -5FR 0SA +TU mo DAILY WEEKLY MONTHLY YEARLY FREQ COUNT UNTIL BYDAY BYMONTHDAY BYSETPOS \
+    31-1 SU MO 6MO -5FR 0SA +TU mo DAILY WEEKLY MONTHLY YEARLY HOURLY FREQ COUNT UNTIL BYDAY BYMONTHDAY BYSETPOS BYMONTH \
     20000101T0000 20991231T2359 21000101T0000 +1400";
 
 /// A line of each kind in any place, each damaged.

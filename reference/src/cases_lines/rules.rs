@@ -6,33 +6,36 @@ use crate::random::Random;
 /// A Monday and a fifth, which all of the parts hold.
 const START: &str = "20260105T0600";
 
-const OTHERS: [&str; 6] = [
+const OTHERS: [&str; 7] = [
     "INTERVAL=2",
     "COUNT=3",
     "UNTIL=20270105T0600",
     "BYDAY=TU,MO",
     "BYMONTHDAY=5,-27",
     "BYSETPOS=1",
+    "BYMONTH=3,1",
 ];
 
 /// The same names with other values.
-const AGAIN: [&str; 6] = [
+const AGAIN: [&str; 7] = [
     "INTERVAL=1",
     "COUNT=0002",
     "UNTIL=20260105T0600",
     "BYDAY=1MO",
     "BYMONTHDAY=-27",
     "BYSETPOS=-1,+1",
+    "BYMONTH=0001",
 ];
 
-const FREQUENCIES: [Option<&str>; 4] = [
+const FREQUENCIES: [Option<&str>; 5] = [
     Some("FREQ=DAILY"),
     Some("FREQ=WEEKLY"),
     Some("FREQ=MONTHLY"),
+    Some("FREQ=YEARLY"),
     None,
 ];
 
-const ORDERS: usize = 6;
+const ORDERS: usize = 4;
 
 pub fn all(random: &mut Random) -> Vec<Case> {
     let mut all = Vec::new();
@@ -60,6 +63,15 @@ pub fn all(random: &mut Random) -> Vec<Case> {
         ];
         all.extend(all_orders(&parts).iter().map(|parts| case(parts)));
     }
+    let parts = [
+        "FREQ=YEARLY",
+        "COUNT=2",
+        "BYDAY=1MO,MO",
+        "BYMONTHDAY=5",
+        "BYSETPOS=-1",
+        "BYMONTH=1",
+    ];
+    all.extend(all_orders(&parts).iter().map(|parts| case(parts)));
     all
 }
 

@@ -81,7 +81,7 @@ pub fn longest_taken(lines: usize) -> Vec<u8> {
     all.concat()
 }
 
-/// A zone and 63 rules, each with another start: no plan is longer than this sheet's 4,989 bytes.
+/// A zone and 63 rules, each with another start: no plan is longer than this sheet's 5,241 bytes.
 pub fn longest_plan() -> String {
     let rules = (0..63).map(|minute| format!("R {} FREQ=DAILY\n", written(minute)));
     ["Z +0100\n".to_string()].into_iter().chain(rules).collect()

@@ -8,7 +8,9 @@ mod rooms;
 
 use crate::answer_sheets::request;
 use crate::cases_lines::damage::{at_every_byte, damaged};
-use crate::cases_plans::{sheets_at_the_ends, sheets_of_positions, some_sheet, EVERY_KIND, SORTS};
+use crate::cases_plans::{
+    sheets_at_the_ends, sheets_of_positions, sheets_of_years, some_sheet, EVERY_KIND, SORTS,
+};
 use crate::generate::{bad_sheet, edge_lines, refused_sheet, sheet_of_lines};
 use crate::random::Random;
 
@@ -35,6 +37,7 @@ Z +0100
 T 20260329T0100 +0200
 C 30 2 * * 1-5
 R 20260131T0600 FREQ=MONTHLY;BYDAY=SA,-1SU;COUNT=3
+R 20260131T0600 FREQ=YEARLY;BYMONTH=1,12
 D 20260329T0230
 X 20260329T0330
 ";
@@ -75,7 +78,8 @@ pub fn searched_sheets() -> Vec<String> {
     let written = [EXAMPLE, SMALL, EVERY_KIND].map(str::to_string);
     let all = written.into_iter().chain([lengths::longest_plan()]);
     let all = all.chain(sheets_at_the_ends());
-    all.chain(sheets_of_positions()).collect()
+    let all = all.chain(sheets_of_positions());
+    all.chain(sheets_of_years()).collect()
 }
 
 /// The sheets of a round: those that are searched are taken.

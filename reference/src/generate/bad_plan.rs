@@ -14,7 +14,7 @@ const LEAST: i64 = -2_147_483_648;
 /// A field of the frames of a kind: kind, first byte, length, and numbers at both sides of its limits.
 type Edges = (u8, usize, usize, &'static [i64]);
 
-const EDGES: [Edges; 38] = [
+const EDGES: [Edges; 42] = [
     (0x01, 1, 2, &[840, 841, -720, -721, 0, -32_768]),
     (0x02, 1, 4, &[0, -1, PAST - 1, PAST, LEAST]),
     (0x02, 5, 2, &[840, 841, -720, -721, 32_767]),
@@ -24,7 +24,7 @@ const EDGES: [Edges; 38] = [
     (0x03, 17, 2, &[0, 1, 2, 1 << 12, 1 << 13, 0x1FFE, -1]),
     (0x03, 19, 1, &[0, 1, 0x40, 0x7F, 0x80, 0xFF]),
     (0x03, 20, 1, &[0, 1, 2, 3, 4, 7, 0x83]),
-    (0x04, 1, 1, &[0, 1, 2, 3, 4, 0xFF]),
+    (0x04, 1, 1, &[0, 1, 2, 3, 4, 5, 0xFF]),
     (0x04, 2, 2, &[0, 1, 2, 999, 1_000, -1]),
     (0x04, 4, 4, &[0, PAST - 1, PAST, LEAST]),
     (0x04, 8, 4, &[0, PAST - 1, PAST, LEAST]),
@@ -43,14 +43,18 @@ const EDGES: [Edges; 38] = [
     (0x04, 30, 1, &[0x7F, 0x80]),
     (0x04, 31, 4, &[0, 1, 2, -2, -1]),
     (0x04, 35, 4, &[0, 1, 2, -2, -1]),
+    (0x04, 39, 2, &[0, 1, 2, 1 << 12, 1 << 13, 0x1FFE, -1]),
     // groups of fields together
     (0x04, 12, 27, &[0]),
+    (0x04, 12, 29, &[0]),
     (0x04, 12, 9, &[0]),
     (0x04, 13, 8, &[0]),
     (0x04, 13, 26, &[0]),
+    (0x04, 13, 28, &[0]),
     (0x04, 21, 10, &[0]),
     (0x04, 21, 18, &[0]),
     (0x04, 31, 8, &[0]),
+    (0x04, 31, 10, &[0]),
     (0x05, 1, 4, &[0, PAST - 1, PAST, LEAST, -1]),
     (0x06, 1, 4, &[0, PAST - 1, PAST, LEAST, -1]),
     (0xFF, 1, 1, &[0, 1, 64, 0xFF]),
@@ -119,6 +123,34 @@ pub fn damaged_everywhere(plan: &str) -> Vec<Vec<u8>> {
         }
     }
     plans
+}
+
+/// The plan with another month mask in its last rule frame: each bit alone, added and changed; none, all months and all bits.
+pub fn with_month_masks(plan: &str) -> Vec<Vec<u8>> {
+    let frames = frames_of(plan);
+    let chosen = frames.iter().rposition(|frame| frame[0] == 0x04);
+    let chosen = chosen.expect("a plan with a rule");
+    let given = i64::from(frames[chosen][39]) << 8 | i64::from(frames[chosen][40]);
+    let bits = (0..16).map(|bit| 1 << bit);
+    let masks = bits.flat_map(|bit| [bit, given | bit, given ^ bit]);
+    let changed = |mask| {
+        let mut frames = frames.clone();
+        set(&mut frames[chosen], 39, 2, mask);
+        text_of(&frames)
+    };
+    masks.chain([0, 0x1FFE, 0xFFFF]).map(changed).collect()
+}
+
+/// The plan with each of its rule frames cut to so many bytes, one at a time.
+pub fn with_short_rules(plan: &str, length: usize) -> Vec<Vec<u8>> {
+    let frames = frames_of(plan);
+    let places = (0..frames.len()).filter(|&place| frames[place][0] == 0x04);
+    let cut = |place: usize| {
+        let mut frames = frames.clone();
+        frames[place].truncate(length);
+        text_of(&frames)
+    };
+    places.map(cut).collect()
 }
 
 /// A field of any frame at one of its edges.
@@ -206,11 +238,12 @@ fn with_bits_changed(mut frames: Vec<Vec<u8>>, random: &mut Random) -> Vec<u8> {
 fn with_another_length(mut frames: Vec<Vec<u8>>, random: &mut Random) -> Vec<u8> {
     let chosen = any_place(&frames, random);
     let frame = &mut frames[chosen];
-    match random.between(0, 4) {
+    match random.between(0, 5) {
         0 => frame.push(0),
         1 => frame.truncate(frame.len() - 1),
         2 => frame.truncate(1),
         3 => frame.clear(),
+        4 => frame.truncate(frame.len() - 2), // a rule frame is then as it was without its month mask
         _ => frame[0] = [0x00, 0x01, 0x02, 0x05, 0x06, 0x07, 0xFE][random.between(0, 6) as usize],
     }
     text_of(&frames)

@@ -1,6 +1,6 @@
 //! Random R lines whose start is an occurrence.
 
-use crate::local::{written, FIRST_MINUTE, LAST_MINUTE};
+use crate::local::{written, FIRST_MINUTE, LAST_MINUTE, MINUTES_OF_A_DAY};
 use crate::meaning::rule::occurrences;
 use crate::random::Random;
 use crate::sheet::line::{Frequency, Rule, WeekdayEntry};
@@ -24,6 +24,16 @@ pub fn all_positions() -> Vec<String> {
     places.map(line).collect()
 }
 
+/// The same in years of all their Saturdays, of which the first is 2000-01-01 and the 53rd 2000-12-30.
+pub fn all_positions_of_years() -> Vec<String> {
+    let line = |(week, position): (i64, i64)| {
+        let start = written(7 * MINUTES_OF_A_DAY * week + 360);
+        format!("R {start} FREQ=YEARLY;BYDAY=SA;BYSETPOS={position}")
+    };
+    let places = (1..=31).flat_map(|n| [(n - 1, n), (53 - n, -n)]);
+    places.map(line).collect()
+}
+
 fn line_of(some_rule: fn(&mut Random) -> Rule, random: &mut Random) -> String {
     loop {
         let mut rule = some_rule(random);
@@ -36,18 +46,24 @@ fn line_of(some_rule: fn(&mut Random) -> Rule, random: &mut Random) -> String {
     }
 }
 
-/// A month's set of 8 to 31 days, by weekdays or month days, and positions of any size.
+/// A month's set of 8 to 31 days or a year's of 24 to 366, by weekdays or month days, at times in some months alone; and
+/// positions of any size.
 fn large_set_rule(random: &mut Random) -> Rule {
+    let yearly = one_in(2, random);
     let by_weekdays = one_in(2, random);
     let plain = |weekday| WeekdayEntry {
         ordinal: None,
         weekday,
     };
-    let weekdays = random.between(2, 7);
-    let month_days = random.between(8, 24); // so that the line is not too long
+    let weekdays = random.between(if yearly { 1 } else { 2 }, 7);
+    let month_days = random.between(if yearly { 2 } else { 8 }, 20); // so that the line is not too long
     Rule {
         start: random.between(FIRST_MINUTE, LAST_MINUTE),
-        frequency: Frequency::Monthly,
+        frequency: if yearly {
+            Frequency::Yearly
+        } else {
+            Frequency::Monthly
+        },
         interval: random.between(1, 3),
         count: None,
         until: None,
@@ -58,17 +74,26 @@ fn large_set_rule(random: &mut Random) -> Rule {
                 .map(|_| signed_up_to(31, random))
                 .collect(),
         ),
+        by_month: one_in(3, random).then(|| month_list(random)),
     }
 }
 
 fn rule_without_end(random: &mut Random) -> Rule {
-    let frequencies = [Frequency::Daily, Frequency::Weekly, Frequency::Monthly];
-    let frequency = frequencies[random.between(0, 2) as usize];
+    let frequencies = [
+        Frequency::Daily,
+        Frequency::Weekly,
+        Frequency::Monthly,
+        Frequency::Yearly,
+    ];
+    let frequency = frequencies[random.between(0, 3) as usize];
     let monthly = frequency == Frequency::Monthly;
-    let by_day = one_in(2, random).then(|| weekday_list(monthly, random));
+    let yearly = frequency == Frequency::Yearly;
+    let by_month = one_in(3, random).then(|| month_list(random));
+    let ordinals_allowed = monthly || yearly && by_month.is_some();
+    let by_day = one_in(2, random).then(|| weekday_list(ordinals_allowed, random));
     let by_month_day =
         (frequency != Frequency::Weekly && one_in(3, random)).then(|| month_day_list(random));
-    let positions_allowed = monthly && (by_day.is_some() || by_month_day.is_some());
+    let positions_allowed = (monthly || yearly) && (by_day.is_some() || by_month_day.is_some());
     Rule {
         start: random.between(FIRST_MINUTE, LAST_MINUTE),
         frequency,
@@ -78,6 +103,7 @@ fn rule_without_end(random: &mut Random) -> Rule {
         by_day,
         by_month_day,
         by_set_pos: (positions_allowed && one_in(2, random)).then(|| month_day_list(random)),
+        by_month,
     }
 }
 
@@ -112,6 +138,16 @@ fn month_day_list(random: &mut Random) -> Vec<i64> {
         .collect()
 }
 
+/// Some months, February more often than others.
+fn month_list(random: &mut Random) -> Vec<i64> {
+    (0..random.between(1, 4))
+        .map(|_| match random.between(0, 5) {
+            0 => 2,
+            _ => random.between(1, 12),
+        })
+        .collect()
+}
+
 fn signed_up_to(highest: i64, random: &mut Random) -> i64 {
     let size = random.between(1, highest);
     if one_in(2, random) {
@@ -138,6 +174,7 @@ fn parts_text(rule: &Rule, random: &mut Random) -> String {
         Frequency::Daily => "DAILY",
         Frequency::Weekly => "WEEKLY",
         Frequency::Monthly => "MONTHLY",
+        Frequency::Yearly => "YEARLY",
     };
     let mut parts = vec![format!("FREQ={frequency}")];
     if rule.interval != 1 || one_in(2, random) {
@@ -158,6 +195,10 @@ fn parts_text(rule: &Rule, random: &mut Random) -> String {
             parts.push(format!("{name}={}", words.join(",")));
         }
     }
+    if let Some(months) = &rule.by_month {
+        let words: Vec<String> = months.iter().map(|&n| plain_text(n, random)).collect();
+        parts.push(format!("BYMONTH={}", words.join(",")));
+    }
     shuffle(&mut parts, random);
     parts.join(";")
 }
@@ -174,6 +215,15 @@ fn signed_text(number: i64, random: &mut Random) -> String {
         0 => format!("{number:+}"),
         1 => format!("{number:+05}"),
         2 => format!("{number:02}"),
+        _ => number.to_string(),
+    }
+}
+
+/// A number without a sign.
+fn plain_text(number: i64, random: &mut Random) -> String {
+    match random.between(0, 5) {
+        0 => format!("{number:04}"),
+        1 => format!("{number:02}"),
         _ => number.to_string(),
     }
 }

@@ -38,7 +38,7 @@ fn unlimited(rule: &Rule) -> impl Iterator<Item = i64> + '_ {
         .filter(|&minute| minute >= rule.start)
 }
 
-/// "Periods are days, Monday weeks or months."
+/// "Periods are days, Monday weeks or months." "For YEARLY the period is the calendar year".
 fn period(rule: &Rule, number: i64) -> RangeInclusive<i64> {
     let start = day_of_minute(rule.start);
     match rule.frequency {
@@ -51,6 +51,10 @@ fn period(rule: &Rule, number: i64) -> RangeInclusive<i64> {
             let date = date_of(start);
             let months = date.year * 12 + date.month - 1 + number;
             month(months / 12, months % 12 + 1)
+        }
+        Frequency::Yearly => {
+            let year = date_of(start).year + number;
+            *month(year, 1).start()..=*month(year, 12).end()
         }
     }
 }
@@ -66,11 +70,25 @@ fn date_of(day: i64) -> Date {
 
 /// "the period's whole rising day set".
 fn day_set(rule: &Rule, period: RangeInclusive<i64>) -> Vec<i64> {
-    period.filter(|&day| is_in_set(rule, day)).collect()
+    period
+        .filter(|&day| month_allows(rule, day) && is_in_set(rule, day))
+        .collect()
+}
+
+/// "For the other frequencies BYMONTH only limits." For YEARLY days are picked "in the months of BYMONTH, or in
+/// all months without it; with neither, [..] in the BYMONTH months, or in the start's month".
+fn month_allows(rule: &Rule, day: i64) -> bool {
+    let month = date_of(day).month;
+    let neither = rule.by_day.is_none() && rule.by_month_day.is_none();
+    match (rule.frequency, &rule.by_month) {
+        (_, Some(months)) => months.contains(&month),
+        (Frequency::Yearly, None) if neither => month == date_of(day_of_minute(rule.start)).month,
+        (_, None) => true,
+    }
 }
 
 /// Rule 2. "DAILY: the day, if BYDAY and BYMONTHDAY, where given, both allow it." "MONTHLY: days that satisfy
-/// each of BYDAY and BYMONTHDAY that is given".
+/// each of BYDAY and BYMONTHDAY that is given". YEARLY: "both must allow a day, if both are given".
 fn is_in_set(rule: &Rule, day: i64) -> bool {
     let start = day_of_minute(rule.start);
     match (rule.frequency, &rule.by_day, &rule.by_month_day) {
@@ -78,6 +96,8 @@ fn is_in_set(rule: &Rule, day: i64) -> bool {
         (Frequency::Weekly, None, _) => weekday(day) == weekday(start),
         // "with neither, the start's day of month. A month without that day gives nothing."
         (Frequency::Monthly, None, None) => date_of(day).day == date_of(start).day,
+        // "with neither, the start's day"; "29 February comes in leap years only."
+        (Frequency::Yearly, None, None) => date_of(day).day == date_of(start).day,
         (_, by_day, by_month_day) => {
             let by_day_allows = by_day
                 .as_ref()

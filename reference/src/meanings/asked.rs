@@ -47,10 +47,10 @@ fn at_or_beside(minute: i64, random: &mut Random) -> i64 {
     }
 }
 
-/// A minute, an hour, a day, a week or about a month away.
+/// A minute, an hour, a day, a week, about a month or a year away.
 fn beside(minute: i64, random: &mut Random) -> i64 {
-    let distances = [1, 60, 1_440, 10_080, 43_200, 44_640];
-    let distance = distances[random.between(0, 5) as usize];
+    let distances = [1, 60, 1_440, 10_080, 43_200, 44_640, 525_600, 527_040];
+    let distance = distances[random.between(0, 7) as usize];
     minute + distance * (2 * random.between(0, 1) - 1)
 }
 

@@ -2,7 +2,7 @@
 
 use crate::local::{time_of_minute, LAST_MINUTE, MINUTES_OF_A_DAY};
 use crate::meaning::rule::nth_occurrence;
-use crate::sheet::line::{Line, Rule};
+use crate::sheet::line::{Frequency, Line, Rule};
 
 /// The days from the start on that are walked until the COUNT-th occurrence is found.
 pub fn days_to_last(line: &Line) -> i64 {
@@ -31,10 +31,15 @@ fn weighted_days(rule: &Rule, until: i64) -> i64 {
     days.max(0) * tests_of_a_day(rule)
 }
 
-/// A day is tested by each entry; for a position its month's days are tested too.
+/// A day is tested by each entry; for a position its month's or year's days are tested too.
 fn tests_of_a_day(rule: &Rule) -> i64 {
     let entries = rule.by_day.as_ref().map_or(0, Vec::len) as i64;
     let month_days = rule.by_month_day.as_ref().map_or(0, Vec::len) as i64;
     let positions = rule.by_set_pos.as_ref().map_or(0, Vec::len) as i64;
-    (2 + entries + month_days) * (1 + 2 * positions)
+    let months = if rule.frequency == Frequency::Yearly {
+        12
+    } else {
+        1
+    };
+    (2 + entries + month_days) * (1 + 2 * positions * months)
 }

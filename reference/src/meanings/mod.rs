@@ -11,8 +11,8 @@ use std::io::{self, Write};
 
 use crate::entries::{compile, Loaded};
 use crate::generate::{
-    bad_plan, bad_sheet, crowded_sheet, edge_lines, plans_at_the_edges, refused_sheet, sheet,
-    short_sheet,
+    bad_plan, bad_sheet, crowded_sheet, edge_lines, lines_of_years, plans_at_the_edges,
+    refused_sheet, sheet, short_sheet,
 };
 use crate::hex::word_of;
 use crate::meaning::{of_sheet, Meaning};
@@ -20,13 +20,17 @@ use crate::plan::{self, of_plan};
 use crate::random::Random;
 use crate::sheet::line::Line;
 use crate::sheet::read;
+use crate::tables::examples::{examples, RFC5545};
 use crate::zone::{Zone, OFFSETS};
 
-/// A room for every plan: 64 rule frames and the end frame have 5,061 bytes.
+/// A room for every plan: 64 rule frames and the end frame have 5,317 bytes.
 const AMPLE: usize = 6_000;
 
 /// Sheets and minutes that make the prover walk over more days, each weighted by its tests, are left out.
 const MOST_DAYS: i64 = 30_000;
+
+/// Of the rules of years that are written down, one in so many.
+const YEARS_STEP: u64 = 3;
 
 /// The sorts of sheets: taken ones; one that is refused by each number 1 to 8; one that is near to it by each
 /// number, and one with bytes changed.
@@ -42,6 +46,9 @@ pub fn dump(seed: u64, sheets: u64, plans: u64, out: &mut impl Write) -> io::Res
         sheet_case(format!("{line}\n").as_bytes(), &mut random, out)?;
         sheet_case(format!("Z +0100\n{line}\n").as_bytes(), &mut random, out)?;
     }
+    for text in sheets_of_years(seed) {
+        sheet_case(text.as_bytes(), &mut random, out)?;
+    }
     for number in 0..sheets {
         let text = some_sheet(number % SHEET_SORTS, &mut random);
         sheet_case(&text, &mut random, out)?;
@@ -55,6 +62,20 @@ pub fn dump(seed: u64, sheets: u64, plans: u64, out: &mut impl Write) -> io::Res
         plan_case(&text, &mut random, out)?;
     }
     Ok(())
+}
+
+/// RFC 5545's examples of years and of months, and every so many-th of such rules, others for another seed.
+fn sheets_of_years(seed: u64) -> Vec<String> {
+    let is_wanted = |line: &str| line.contains("YEARLY") || line.contains("BYMONTH=");
+    let printed = examples(RFC5545).into_iter();
+    let printed = printed.filter(|example| is_wanted(&example.line));
+    let printed = printed.map(|example| format!("{}\n{}\n", example.zone.join("\n"), example.line));
+    let rules = lines_of_years().into_iter();
+    let rules = rules.skip((seed % YEARS_STEP) as usize);
+    let rules = rules.step_by(YEARS_STEP as usize);
+    printed
+        .chain(rules.map(|line| format!("Z +0000\n{line}\n")))
+        .collect()
 }
 
 /// A sheet of a sort whose counting is not too long.

@@ -36,6 +36,7 @@ pub struct RuleFrame {
     pub ordinals_from_end: [u64; 5],
     pub positions: u64,
     pub positions_from_end: u64,
+    pub months: u64,
 }
 
 /// The frame of a line's bytes; none if its kind or length is none of the listed.
@@ -50,7 +51,7 @@ pub fn read(bytes: &[u8]) -> Option<Frame> {
             offset: signed(&rest[4..]),
         })),
         (0x03, 20) => Some(Frame::Cron(cron(rest))),
-        (0x04, 38) => Some(Frame::Rule(rule(rest))),
+        (0x04, 40) => Some(Frame::Rule(rule(rest))),
         (0x05, 4) => Some(Frame::Extra {
             minute: signed(rest),
         }),
@@ -95,7 +96,8 @@ fn cron(bytes: &[u8]) -> CronFrame {
 }
 
 /// "frequency 1 [..], interval 2, start 4, last 4, plain weekday mask 1, month days 4, month days from the end
-/// 4, ordinals 1..5 one weekday mask each, ordinals -1..-5 likewise, positions 4, positions from the end 4".
+/// 4, ordinals 1..5 one weekday mask each, ordinals -1..-5 likewise, positions 4, positions from the end 4"; "a
+/// month mask of 2 bytes at its end".
 fn rule(bytes: &[u8]) -> RuleFrame {
     RuleFrame {
         frequency: unsigned(&bytes[..1]),
@@ -108,6 +110,7 @@ fn rule(bytes: &[u8]) -> RuleFrame {
         ordinals: [20, 21, 22, 23, 24].map(|place| u64::from(bytes[place])),
         ordinals_from_end: [25, 26, 27, 28, 29].map(|place| u64::from(bytes[place])),
         positions: unsigned(&bytes[30..34]),
-        positions_from_end: unsigned(&bytes[34..]),
+        positions_from_end: unsigned(&bytes[34..38]),
+        months: unsigned(&bytes[38..]),
     }
 }

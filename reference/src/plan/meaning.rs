@@ -1,8 +1,10 @@
 //! "A plan's meaning is the sheet meaning read from these fields, with no counting."
 
+use std::ops::RangeInclusive;
+
 use super::frame::{CronFrame, Frame, RuleFrame};
 use super::Plan;
-use crate::dates::{date_of_day, month_length, weekday, Date};
+use crate::dates::{date_of_day, day_of_date, month_length, weekday, Date};
 use crate::local::{day_of_minute, days, minute_at, time_of_minute, MINUTES_OF_A_DAY};
 use crate::meaning::Meaning;
 use crate::minutes::MinuteSet;
@@ -81,19 +83,21 @@ fn periods_from_start(rule: &RuleFrame, day: i64) -> i64 {
     period_number(rule, day) - period_number(rule, day_of_minute(rule.start))
 }
 
-/// "Periods are days, Monday weeks or months": days, weeks or months since some fixed one.
+/// "Periods are days, Monday weeks or months", or calendar years: so many since some fixed one.
 fn period_number(rule: &RuleFrame, day: i64) -> i64 {
     let date = date_of(day);
     match rule.frequency {
         1 => day,
         2 => (day + 3).div_euclid(7), // day -3 is a Monday
-        _ => date.year * 12 + date.month,
+        3 => date.year * 12 + date.month,
+        _ => date.year,
     }
 }
 
-/// "A zero month-day pair, weekday group or position pair means no such limit."
+/// "A zero month-day pair, weekday group or position pair means no such limit", and so does a zero month mask.
 fn in_day_set(rule: &RuleFrame, day: i64) -> bool {
-    (!rule.has_month_days() || month_days_hold(rule, day))
+    (!rule.has_months() || bit(rule.months, date_of(day).month))
+        && (!rule.has_month_days() || month_days_hold(rule, day))
         && (!rule.has_weekdays() || weekdays_hold(rule, day))
 }
 
@@ -117,19 +121,34 @@ fn weekdays_hold(rule: &RuleFrame, day: i64) -> bool {
     )
 }
 
-/// Positions are places in the whole month's set, from its front and from its end.
+/// Positions are places in the whole month's or year's set, from its front and from its end.
 fn position_holds(rule: &RuleFrame, day: i64) -> bool {
     if !rule.has_positions() {
         return true;
     }
-    let date = date_of(day);
-    let first = day - (date.day - 1);
-    let set: Vec<i64> = (first..first + month_length(date.year, date.month))
-        .filter(|&other| in_day_set(rule, other))
-        .collect();
-    let place = set.iter().filter(|&&other| other <= day).count() as i64;
-    let place_from_end = set.iter().filter(|&&other| other >= day).count() as i64;
+    let period = month_or_year(rule, day);
+    let place = set_days(rule, *period.start()..=day);
+    let place_from_end = set_days(rule, day..=*period.end());
     bit(rule.positions, place) || bit(rule.positions_from_end, place_from_end)
+}
+
+/// The days of the period that holds the day; only a monthly or a yearly rule has positions.
+fn month_or_year(rule: &RuleFrame, day: i64) -> RangeInclusive<i64> {
+    let date = date_of(day);
+    let (first, last) = match rule.frequency {
+        3 => (date.month, date.month),
+        _ => (1, 12),
+    };
+    let day_of = |month, day| day_of_date(date.year, month, day);
+    let ends = day_of(first, 1).zip(day_of(last, month_length(date.year, last)));
+    let (first, last) = ends.expect("a month has a first and a last day");
+    first..=last
+}
+
+/// How many of these days are in the set, counted as far as one past the last position that a mask can have.
+fn set_days(rule: &RuleFrame, days: RangeInclusive<i64>) -> i64 {
+    let in_set = days.filter(|&day| in_day_set(rule, day));
+    in_set.take(32).count() as i64
 }
 
 fn date_of(day: i64) -> Date {

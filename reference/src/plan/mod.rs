@@ -80,4 +80,9 @@ impl RuleFrame {
     fn has_positions(&self) -> bool {
         self.positions != 0 || self.positions_from_end != 0
     }
+
+    /// "zero for no limit".
+    fn has_months(&self) -> bool {
+        self.months != 0
+    }
 }

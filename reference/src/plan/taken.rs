@@ -69,7 +69,7 @@ fn rule_allowed(rule: &RuleFrame) -> bool {
     numbers_hold && rule_masks_hold(rule) && parts_hold(rule) && start_is_occurrence(rule)
 }
 
-/// "mask bits only in named places".
+/// "mask bits only in named places"; of the month mask "bits 1 to 12 only".
 fn rule_masks_hold(rule: &RuleFrame) -> bool {
     let days = [
         rule.month_days,
@@ -80,19 +80,27 @@ fn rule_masks_hold(rule: &RuleFrame) -> bool {
     let mut weekdays = vec![rule.plain_weekdays];
     weekdays.extend(rule.ordinals);
     weekdays.extend(rule.ordinals_from_end);
-    days.iter().all(|mask| mask & !DAYS == 0) && weekdays.iter().all(|mask| mask & !WEEKDAYS == 0)
+    days.iter().all(|mask| mask & !DAYS == 0)
+        && weekdays.iter().all(|mask| mask & !WEEKDAYS == 0)
+        && rule.months & !MONTHS == 0
 }
 
+/// The month mask is "free in every frequency".
 fn parts_hold(rule: &RuleFrame) -> bool {
     let no_ordinals = !rule.has_ordinals();
     let no_positions = !rule.has_positions();
     match rule.frequency {
         // "daily: ordinals and positions zero"
         1 => no_ordinals && no_positions,
-        // "weekly: weekday mask set, all else after it zero"
+        // "weekly: weekday mask set, all else after it zero", but for the month mask
         2 => rule.plain_weekdays != 0 && !rule.has_month_days() && no_ordinals && no_positions,
         // "monthly: at least one month day or weekday set"
         3 => rule.has_month_days() || rule.has_weekdays(),
+        // "only with a month day or weekday set, and with a month set where an ordinal is"
+        4 => {
+            let days_hold = rule.has_month_days() || rule.has_weekdays();
+            days_hold && (no_ordinals || rule.has_months())
+        }
         _ => false,
     }
 }

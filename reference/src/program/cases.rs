@@ -14,8 +14,15 @@ const ROUNDS: u64 = 2;
 /// Every so many-th of the taken sheets that the suite `sheets` always has.
 const STEP: usize = 8;
 
-/// Lengths at which a sort of sheets begins: about the most, some 20,000, and more than a pipe takes.
-const LENGTHS: [usize; 5] = [MOST_BYTES - 1, MOST_BYTES, MOST_BYTES + 1, 19_999, 65_537];
+/// Lengths at which a sort of sheets begins: nearly the most, about the most, some 20,000, and more than a pipe takes.
+const LENGTHS: [usize; 6] = [
+    16_000,
+    MOST_BYTES - 1,
+    MOST_BYTES,
+    MOST_BYTES + 1,
+    19_999,
+    65_537,
+];
 
 /// Numbers of lines at which a sort begins.
 const LINES: [usize; 3] = [1, 64, 65];

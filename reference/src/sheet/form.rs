@@ -21,6 +21,7 @@ pub enum Part<Time> {
     ByDay(Vec<WeekdayEntry>),
     ByMonthDay(Vec<i64>),
     BySetPos(Vec<i64>),
+    ByMonth(Vec<i64>),
 }
 
 /// "A *time* is `YYYYMMDDTHHMM`".
@@ -147,6 +148,7 @@ fn part(text: &str) -> Option<Part<TimeDigits>> {
         "BYDAY" => Some(Part::ByDay(comma_list(value, weekday_entry)?)),
         "BYMONTHDAY" => Some(Part::ByMonthDay(comma_list(value, signed_number)?)),
         "BYSETPOS" => Some(Part::BySetPos(comma_list(value, signed_number)?)),
+        "BYMONTH" => Some(Part::ByMonth(comma_list(value, number)?)),
         _ => None,
     }
 }
@@ -156,6 +158,7 @@ fn frequency(word: &str) -> Option<Frequency> {
         "DAILY" => Some(Frequency::Daily),
         "WEEKLY" => Some(Frequency::Weekly),
         "MONTHLY" => Some(Frequency::Monthly),
+        "YEARLY" => Some(Frequency::Yearly),
         _ => None,
     }
 }

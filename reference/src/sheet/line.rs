@@ -58,6 +58,7 @@ pub struct Rule {
     pub by_day: Option<Vec<WeekdayEntry>>,
     pub by_month_day: Option<Vec<i64>>,
     pub by_set_pos: Option<Vec<i64>>,
+    pub by_month: Option<Vec<i64>>,
 }
 
 #[derive(Clone, Copy, PartialEq, Eq)]
@@ -65,6 +66,7 @@ pub enum Frequency {
     Daily,
     Weekly,
     Monthly,
+    Yearly,
 }
 
 /// "`SU MO TU WE TH FR SA`, each with an optional signed ordinal"; the weekday's Sunday is 0.

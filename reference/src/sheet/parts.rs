@@ -28,6 +28,7 @@ fn rule(start: i64, parts: Vec<Part<i64>>) -> Option<Rule> {
     let mut interval = None;
     let (mut count, mut until) = (None, None);
     let (mut by_day, mut by_month_day, mut by_set_pos) = (None, None, None);
+    let mut by_month = None;
     for part in parts {
         match part {
             Part::Freq(value) => once(&mut frequency, value)?,
@@ -37,6 +38,7 @@ fn rule(start: i64, parts: Vec<Part<i64>>) -> Option<Rule> {
             Part::ByDay(value) => once(&mut by_day, value)?,
             Part::ByMonthDay(value) => once(&mut by_month_day, value)?,
             Part::BySetPos(value) => once(&mut by_set_pos, value)?,
+            Part::ByMonth(value) => once(&mut by_month, value)?,
         }
     }
     let rule = Rule {
@@ -48,6 +50,7 @@ fn rule(start: i64, parts: Vec<Part<i64>>) -> Option<Rule> {
         by_day,
         by_month_day,
         by_set_pos,
+        by_month,
     };
     go_together(&rule).then_some(rule)
 }
@@ -58,16 +61,19 @@ fn once<Value>(slot: &mut Option<Value>, value: Value) -> Option<()> {
 }
 
 fn go_together(rule: &Rule) -> bool {
-    let monthly = rule.frequency == Frequency::Monthly;
     let weekly = rule.frequency == Frequency::Weekly;
+    let yearly = rule.frequency == Frequency::Yearly;
+    let monthly_or_yearly = rule.frequency == Frequency::Monthly || yearly;
     let has_ordinal = rule.by_day.iter().flatten().any(|e| e.ordinal.is_some());
+    let no_month = rule.by_month.is_none();
     let neither = rule.by_day.is_none() && rule.by_month_day.is_none();
     let apart = [
         rule.count.is_some() && rule.until.is_some(), // "COUNT with UNTIL"
-        has_ordinal && !monthly,                      // "ordinal outside MONTHLY"
+        has_ordinal && !monthly_or_yearly,            // "ordinal outside MONTHLY", or now YEARLY
+        has_ordinal && yearly && no_month,            // there they "need BYMONTH, else refusal 6"
         rule.by_month_day.is_some() && weekly,        // "BYMONTHDAY with WEEKLY"
-        rule.by_set_pos.is_some() && !monthly,        // "BYSETPOS outside MONTHLY"
-        rule.by_set_pos.is_some() && neither,         // "or with neither BYDAY nor BYMONTHDAY"
+        rule.by_set_pos.is_some() && !monthly_or_yearly, // "BYSETPOS outside MONTHLY", or now YEARLY
+        rule.by_set_pos.is_some() && neither,            // "or with neither BYDAY nor BYMONTHDAY"
     ];
     !apart.contains(&true)
 }

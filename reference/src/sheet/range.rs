@@ -89,6 +89,11 @@ fn part(part: Part<TimeDigits>) -> Option<Part<i64>> {
             .iter()
             .all(month_day_holds)
             .then_some(Part::BySetPos(places)),
+        // "`BYMONTH=` 1 to 12"
+        Part::ByMonth(months) => months
+            .iter()
+            .all(|month| (1..=12).contains(month))
+            .then_some(Part::ByMonth(months)),
     }
 }
 

@@ -86,11 +86,11 @@ module _ (c : tie.After-length-of) where
   is-read : Gathered.Is count bytes ≡ readAs (sheetFrames text)
   is-read = sym (c .before .before .read2 .given .1) ∙ c .before .before .before .before .read .ensures .0
 
-  few : (count ≤ 64) × (bytes ≤ 5056)
+  few : (count ≤ 64) × (bytes ≤ 5312)
   few =
       let s =
       both-true (leb count 64) _ (sym (ap small (c .before .before .read2 .given .1)) ∙ c .before .before .before .before .read .ensures .1 .1) in
-      (leb-true count 64 (s .0), leb-true bytes 5056 (s .1))
+      (leb-true count 64 (s .0), leb-true bytes 5312 (s .1))
 
   places : length fresh ≡ 64
   places = ap length (c .before .before .before .before .before .before .fresh-rows .ensures)

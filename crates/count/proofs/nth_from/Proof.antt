@@ -1,6 +1,6 @@
 -- Each turn passes a month that holds fewer days than are left to count: what is left starts with the next month.
 use mathlib.Core.Path.{_≡_, refl, sym, ap, _∙_}
-use Prim.Native.Nat.{_+_, _-_, _<_, _≤_}
+use Prim.Native.Nat.{_+_, _-_, _/_, _<_, _≤_}
 use native.Mathlib.Omega.{arith}
 use borrow.Author.Needs.{needs}
 use denote.Ref.{now}
@@ -12,22 +12,28 @@ use Rattle.masks.specs.Masks.{bit}
 use Rattle.days.specs.Search.{nthDay}
 use Rattle.days.proofs.Nths.{nth-lies}
 use Rattle.count.proofs.NthDays.{day-below, nth-day-past, nth-day-here, nth-day-on}
+use Rattle.frames.specs.Years.{yearCounts}
 use Rattle.count.proofs.nth_from.Statement.{statement}
 use Rattle.count.proofs.nth_from.Tie as tie
 
 abbrev Inv-loop : tie.InvT-loop
-Inv-loop f start month day count k₀ n₀ left₀ k n left =
-    (k ≤ 1200) × (k < 1200 → InMonth k n) × (dayOf k n ≤ 36525) × (1 ≤ left) × (nthDay f count (dayOf month day) ≡ nthDay f left (dayOf k n))
+Inv-loop f start month day count k₀ n₀ left₀ placed counts₀ k n left counts = (k ≤ 1200) × (k < 1200 → InMonth k n) × (dayOf k n ≤ 36525) × (1 ≤ left) × (nthDay f count (dayOf month day) ≡ nthDay f left (dayOf k n)) × (counts ≡ yearCounts f (k / 12))
 
 abbrev μ-loop : tie.MeasureT-loop
-μ-loop f start month day count k₀ n₀ left₀ k n left = 1200 - k
+μ-loop f start month day count k₀ n₀ left₀ placed counts₀ k n left counts = 1200 - k
+
+is-placed-requires : tie.Need-is-placed-requires Inv-loop μ-loop
+is-placed-requires c κs = search needs
+
+year-counts-requires : tie.Need-year-counts-requires Inv-loop μ-loop
+year-counts-requires c κs = search needs
 
 loop-holds : tie.Need-loop-holds Inv-loop μ-loop
-loop-holds c = let i = c .pre .1 in
-    (omega (arith, i .month), λ h. i, omega (arith, day-below _ _ i), c .pre .2, refl)
+loop-holds c = let i = c .before .before .pre .1 in
+    (omega (arith, i .month), λ h. i, omega (arith, day-below _ _ i), c .before .before .pre .2, refl, c .year-counts .ensures)
 
 held-set-requires : tie.Need-held-set-requires Inv-loop μ-loop
-held-set-requires c κs = (c .before .before .pre .0, omega arith)
+held-set-requires c κs = (c .before .before .before .before .pre .0, omega arith, c .before .loop .inv .5)
 
 count-from-requires : tie.Need-count-from-requires Inv-loop μ-loop
 count-from-requires c κs = search needs
@@ -61,7 +67,7 @@ sub-result c = let v = c .before .before .before .before .before .before .loop i
     omega (arith, c .nth-bit .ensures, nth-lies (bit set) (v .left) (64 - v .n) (v .n) .0, i .low)
 
 returns : tie.Need-returns Inv-loop μ-loop
-returns c = let l = now (c .before .before .before .before .before .before .before .args .f) in
+returns c = let l = now (c .before .before .before .before .before .before .before .before .before .args .f) in
     let v = c .before .before .before .before .before .before .loop in
     let i = v .inv .1 (omega arith) in
     let set = c .before .before .before .before .held-set in
@@ -75,24 +81,30 @@ sub-left c = search needs
 add-k : tie.Need-add-k Inv-loop μ-loop
 add-k c = search needs
 
+counts-on-requires : tie.Need-counts-on-requires Inv-loop μ-loop
+counts-on-requires c κs = let v = c .before .before .before .before .loop in
+    let e : v .k + 1 - 1 ≡ v .k = omega arith in
+    (omega arith, c .before .before .before .before .before .before .is-placed .ensures, rw e (v .inv .5))
+
 loop-less : tie.Need-loop-less Inv-loop μ-loop
 loop-less c = omega arith
 
 loop-again : tie.Need-loop-again Inv-loop μ-loop
-loop-again c = let l = now (c .before .before .before .before .before .args .f) in
-    let v = c .before .before .before .before .loop in
+loop-again c = let l = now (c .before .before .before .before .before .before .before .before .args .f) in
+    let v = c .before .before .before .before .before .loop in
     let i = v .inv .1 (omega arith) in
-    let set = c .before .before .held-set in
-    let e = c .before .count-from .ensures in (
+    let set = c .before .before .before .held-set in
+    let e = c .before .before .count-from .ensures in (
       omega arith,
       λ h. record { month = h; low = omega arith; high = omega (arith, month-days-range (v .k + 1) h .0) },
       omega (arith, first-at-most (v .k + 1)),
       omega arith,
       rw e (v .inv .4 ∙ nth-day-on l (v .k) (v .n) i (set .result) (set .ensures) (v .left) (omega (arith, e))),
+      c .counts-on .ensures,
     )
 
 returns-2 : tie.Need-returns-2 Inv-loop μ-loop
-returns-2 c = let l = now (c .before .before .args .f) in
+returns-2 c = let l = now (c .before .before .before .before .args .f) in
     let v = c .before .loop in
     let k : v .k ≡ 1200 = omega arith in
     let e : 36525 ≡ dayOf (v .k) (v .n) = omega (arith, ap monthFirst k, month-first-end, v .inv .2) in
@@ -104,6 +116,8 @@ nth-from-spec =
     (tie.spec
     Inv-loop
     μ-loop
+    is-placed-requires
+    year-counts-requires
     loop-holds
     held-set-requires
     count-from-requires
@@ -114,6 +128,7 @@ nth-from-spec =
     returns
     sub-left
     add-k
+    counts-on-requires
     loop-less
     loop-again
     returns-2)

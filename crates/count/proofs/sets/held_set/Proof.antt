@@ -1,9 +1,7 @@
 -- Where every day passes by itself, the month's set is the held days; else the interval decides too.
-use mathlib.Core.Path.{ap, _∙_}
-use Prim.Native.Nat.{ℕ}
+use mathlib.Core.Path.{_∙_}
 use borrow.Author.Needs.{needs}
 use denote.Ref.{now}
-use Rattle.frames.specs.Months.{monthSet}
 use Rattle.count.proofs.HeldSets.{by-month-set}
 use Rattle.count.proofs.sets.held_set.Statement.{statement}
 use Rattle.count.proofs.sets.held_set.Tie as tie
@@ -21,7 +19,7 @@ returns : tie.Need-returns
 returns c = let s = c .before .before .before .before in
     let l = now (s .args .f) in
     let k = s .args .k in
-    by-month-set l k _ (c .before .before .before .month-set .ensures ∙ ap (λ (m : ℕ). monthSet l m k) (s .pre .0))
+    by-month-set l k _ (c .before .before .before .month-set .ensures ∙ rw (s .pre .0, s .pre .2))
     (rw (c .before .before .month-first .ensures) at (c .before .by-month .ensures .0 (c .if1 .taken)))
 
 counted-set-requires : tie.Need-counted-set-requires
@@ -30,7 +28,7 @@ counted-set-requires c κs = let s = c .before .before .before .before in
     let k = s .args .k in (
       s .pre .1,
       c .before .by-month .ensures .1 (c .if1 .left),
-      c .before .before .before .month-set .ensures ∙ ap (λ (m : ℕ). monthSet l m k) (s .pre .0),
+      c .before .before .before .month-set .ensures ∙ rw (s .pre .0, s .pre .2),
     )
 
 returns-2 : tie.Need-returns-2

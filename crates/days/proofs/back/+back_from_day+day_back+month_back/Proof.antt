@@ -6,14 +6,13 @@ use borrow.Author.Needs.{needs}
 use borrow.Fn.Kinds.{In}
 use borrow.Fn.PlainCycle.{Measures, is, falls, and}
 use denote.Ref.{now}
-use lib.ListN.{getD}
 use Rattle.calendar.proofs.Leasts.{last-here}
 use Rattle.calendar.proofs.Windows.{month-days-range}
 use Rattle.calendar.specs.Window.{monthFirst, monthDays}
 use Rattle.frames.specs.Numbers.{dayHeld}
-use Rattle.days.specs.Steps.{dayPart, SetOf, Down}
+use Rattle.days.specs.Steps.{dayPart, SetOf, Down, lastDayIn}
 use Rattle.days.proofs.Answers.{holds-at}
-use Rattle.days.proofs.Walks.{down-end, down-month, down-on, down-at, small, day-back, last-day, month-end-top, passed-back, all-passed-back, month-passed-back, last-month-passed-back}
+use Rattle.days.proofs.Walks.{down-end, down-month, down-on, down-at, down-year, small, day-back, last-day, month-end-top, passed-back, all-passed-back, month-passed-back, last-month-passed-back}
 use Prim.Native.Nat.{ℕ, _<_}
 use Rattle.days.proofs.back.back_from_day.Reads as back-from-day
 use Rattle.days.proofs.back.back_from_day.Kinds as back-from-day-kinds
@@ -35,13 +34,13 @@ use Rattle.days.proofs.back.+back_from_day+day_back+month_back.{stateme
 use Rattle.days.proofs.back.+back_from_day+day_back+month_back.Tie.{close}
 
 abbrev μ-back-from-day : Measures 1 back-from-day-kinds.ps ℕ
-μ-back-from-day κs a = 2 * (a .1 .0 + 1 - getD (now (a .0)) 14 0) + 1
+μ-back-from-day κs a = 2 * (a .1 .0 + 1 - lastDayIn (now (a .0))) + 1
 
 abbrev μ-day-back : Measures 1 day-back-kinds.ps ℕ
-μ-day-back κs a = 2 * (a .1 .1 .1 .0 + 1 - getD (now (a .0)) 14 0)
+μ-day-back κs a = 2 * (a .1 .1 .1 .0 + 1 - lastDayIn (now (a .0)))
 
 abbrev μ-month-back : Measures 1 month-back-kinds.ps ℕ
-μ-month-back κs a = 2 * (monthFirst (a .1 .0) + monthDays (a .1 .0) - getD (now (a .0)) 14 0) + 1
+μ-month-back κs a = 2 * (monthFirst (a .1 .0) + monthDays (a .1 .0) - lastDayIn (now (a .0))) + 1
 
 abbrev back-from-day-at : ℕ → In 1 back-from-day-kinds.ps
 back-from-day-at t =
@@ -92,7 +91,8 @@ back-from-day-month-mask-requires : (t : ℕ) → back-from-day-lts.Need-month-m
   month-back-below t,
   month-back.Post,
 ) (back-from-day-at t) back-from-day.Post
-back-from-day-month-mask-requires t c κs = c .before .pre .1 .0 .begun
+back-from-day-month-mask-requires t c κs = let p = c .before .pre .1 in
+    rw (c .local-date .ensures) (p .0, p .3)
 
 back-from-day-day-back-requires : (t : ℕ) → back-from-day-lts.Need-day-back-requires (
   local-date-reads.Asked,
@@ -110,7 +110,7 @@ back-from-day-day-back-requires t c κs = let s = c .before .before .before in
     let e = c .before .before .local-date .ensures in
     let h = holds-at (a .d) (p .2) in (
       omega (arith, s .pre .0),
-      (rw e (down-at (now (a .f)) (a .d) (p .0) (p .1) (p .2)), rw e (h .1), rw e (h .2), c .before .month-mask .ensures),
+      (rw e (down-at (now (a .f)) (a .d) (p .0) (p .1) (p .2) (p .3)), rw e (h .1), rw e (h .2), c .before .month-mask .ensures),
     )
 
 back-from-day-returns : (t : ℕ) → back-from-day-lts.Need-returns (
@@ -164,7 +164,7 @@ back-from-day-returns-2 t c = let s = c .before .before .before .before .before 
     let p = s .pre .1 in
     let k = c .before .before .before .before .before .local-date .result .month in
     let w : Down (now (a .f)) k (a .d) =
-    rw (c .before .before .before .before .before .local-date .ensures) (down-at (now (a .f)) (a .d) (p .0) (p .1) (p .2)) in
+    rw (c .before .before .before .before .before .local-date .ensures) (down-at (now (a .f)) (a .d) (p .0) (p .1) (p .2) (p .3)) in
     let z : SetOf (dayPart (now (a .f))) (dayHeld (now (a .f))) k 0 =
     rw (c .before .before .before .if1 .left) at (c .before .before .before .before .month-mask .ensures) in
     last-month-passed-back (now (a .f)) k (a .d) w z (c .before .if2 .taken)
@@ -196,7 +196,7 @@ back-from-day-month-back-requires t c κs = let s = c .before .before .before .b
     let p = s .pre .1 in
     let k = c .before .before .before .before .local-date .result .month in
     let w : Down (now (a .f)) k (a .d) =
-    rw (c .before .before .before .before .local-date .ensures) (down-at (now (a .f)) (a .d) (p .0) (p .1) (p .2)) in (
+    rw (c .before .before .before .before .local-date .ensures) (down-at (now (a .f)) (a .d) (p .0) (p .1) (p .2) (p .3)) in (
       omega (arith, s .pre .0, p .1, w .here .from, down-end (now (a .f)) k (a .d) w (c .if2 .left)),
       down-month (now (a .f)) k (a .d) w (c .if2 .left),
     )
@@ -216,7 +216,7 @@ back-from-day-returns-3 t c = let s = c .before .before .before .before .before 
     let p = s .pre .1 in
     let k = c .before .before .before .before .before .local-date .result .month in
     let w : Down (now (a .f)) k (a .d) =
-    rw (c .before .before .before .before .before .local-date .ensures) (down-at (now (a .f)) (a .d) (p .0) (p .1) (p .2)) in
+    rw (c .before .before .before .before .before .local-date .ensures) (down-at (now (a .f)) (a .d) (p .0) (p .1) (p .2) (p .3)) in
     let z : SetOf (dayPart (now (a .f))) (dayHeld (now (a .f))) k 0 =
     rw (c .before .before .before .if1 .left) at (c .before .before .before .before .month-mask .ensures) in
     month-passed-back (now (a .f)) k (a .d) w z (c .before .if2 .left) _ (c .month-back .ensures)
@@ -263,7 +263,7 @@ day-back-returns t c = let s = c .before .before in
     let a = s .args in
     let p = s .pre .1 in
     let e : a .d + 1 - 1 ≡ a .d = omega arith in
-    last-here (dayHeld (now (a .f))) (getD (now (a .f)) 14 0) (a .d + 1) (omega (arith, p .0 .after))
+    last-here (dayHeld (now (a .f))) (lastDayIn (now (a .f))) (a .d + 1) (omega (arith, p .0 .after))
     (rw e (sym (c .before .day-test .ensures) ∙ c .if1 .taken))
 
 day-back-counted-before-requires : (t : ℕ) → day-back-lts.Need-counted-before-requires (
@@ -321,7 +321,7 @@ day-back-returns-2 t c = let s = c .before .before .before .before .before .befo
     let l = now (a .f) in
     let out = sym (c .before .before .before .before .before .day-test .ensures) ∙ c .before .before .before .before .if1 .left in
     let passed = c .before .before .before .counted-before .ensures in
-    all-passed-back (dayHeld l) (getD l 14 0) _ (a .d) out passed (p .0 .after) (small (a .k) (a .n) (a .d) (p .1) (p .2) .0) (c .before .if2 .taken)
+    all-passed-back (dayHeld l) (lastDayIn l) _ (a .d) out passed (p .0 .after) (small (a .k) (a .n) (a .d) (p .1) (p .2) .0) (c .before .if2 .taken)
 
 day-back-sub-back : (t : ℕ) → day-back-lts.Need-sub-back (
   day-test-reads.Asked,
@@ -389,7 +389,7 @@ day-back-day-back-requires t c κs = let s = c .before .before .before .before .
     let p = s .pre .1 in
     let past = c .before .before .before .counted-before in
     let r : past .result ≤ a .d = past .ensures .rises in
-    let b : getD (now (a .f)) 14 0 < past .result = c .before .if2 .left in
+    let b : lastDayIn (now (a .f)) < past .result = c .before .if2 .left in
     let t : a .d - past .result + 1 < a .n = c .if3 .taken in (
       omega (arith, s .pre .0),
       (
@@ -417,7 +417,7 @@ day-back-returns-3 t c = let s = c .before .before .before .before .before .befo
     let out =
     sym (c .before .before .before .before .before .before .day-test .ensures) ∙ c .before .before .before .before .before .if1 .left in
     let passed = c .before .before .before .before .counted-before .ensures in
-    passed-back (dayHeld l) (getD l 14 0) _ (a .d) out passed (p .0 .after) (small (a .k) (a .n) (a .d) (p .1) (p .2) .0) _ (c .before .before .if2 .left) (c .day-back .ensures)
+    passed-back (dayHeld l) (lastDayIn l) _ (a .d) out passed (p .0 .after) (small (a .k) (a .n) (a .d) (p .1) (p .2) .0) _ (c .before .before .if2 .left) (c .day-back .ensures)
 
 day-back-sub-back-from-day : (t : ℕ) → day-back-lts.Need-sub-back-from-day (
   day-test-reads.Asked,
@@ -446,8 +446,8 @@ day-back-back-from-day-requires t c κs = let s = c .before .before .before .bef
     let p = s .pre .1 in
     let past = c .before .before .before .counted-before in
     let r : past .result ≤ a .d = past .ensures .rises in
-    let b : getD (now (a .f)) 14 0 < past .result = c .before .if2 .left in
-    (omega (arith, s .pre .0), (p .0 .ready, omega arith, omega (arith, small (a .k) (a .n) (a .d) (p .1) (p .2) .0)))
+    let b : lastDayIn (now (a .f)) < past .result = c .before .if2 .left in
+    (omega (arith, s .pre .0), (p .0 .ready, omega arith, omega (arith, small (a .k) (a .n) (a .d) (p .1) (p .2) .0), down-year (now (a .f)) (a .k) (a .d) (past .result - 1) (p .0) (omega arith) (omega arith)))
 
 day-back-returns-4 : (t : ℕ) → day-back-lts.Need-returns-4 (
   day-test-reads.Asked,
@@ -466,7 +466,7 @@ day-back-returns-4 t c = let s = c .before .before .before .before .before .befo
     let out =
     sym (c .before .before .before .before .before .before .day-test .ensures) ∙ c .before .before .before .before .before .if1 .left in
     let passed = c .before .before .before .before .counted-before .ensures in
-    passed-back (dayHeld l) (getD l 14 0) _ (a .d) out passed (p .0 .after) (small (a .k) (a .n) (a .d) (p .1) (p .2) .0) _ (c .before .before .if2 .left) (c .back-from-day .ensures)
+    passed-back (dayHeld l) (lastDayIn l) _ (a .d) out passed (p .0 .after) (small (a .k) (a .n) (a .d) (p .1) (p .2) .0) _ (c .before .before .if2 .left) (c .back-from-day .ensures)
 
 month-back-passing-mask-requires : (t : ℕ) → month-back-lts.Need-passing-mask-requires (
   passing-mask-reads.Asked,
@@ -480,7 +480,7 @@ month-back-passing-mask-requires : (t : ℕ) → month-back-lts.Need-passing-mas
   month-back-below t,
   month-back.Post,
 ) (month-back-at t) month-back.Post
-month-back-passing-mask-requires t c κs = c .pre .1 .ready .begun
+month-back-passing-mask-requires t c κs = (c .pre .1 .ready, c .pre .1 .year)
 
 month-back-month-days-requires : (t : ℕ) → month-back-lts.Need-month-days-requires (
   passing-mask-reads.Asked,

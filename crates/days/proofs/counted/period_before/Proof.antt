@@ -5,8 +5,9 @@ use native.Mathlib.Omega.{arith}
 use native.Mathlib.Nat.{mod-le}
 use borrow.Author.Needs.{needs}
 use denote.Ref.{now}
+use Rattle.days.specs.Steps.{periodOf}
 use lib.ListN.{getD}
-use Rattle.days.proofs.Intervals.{periodOf, period-rises, period-small, weeks-from, none-before-start, last-counted, passed-none}
+use Rattle.days.proofs.Intervals.{period-rises, period-small, weeks-from, none-before-start, last-counted, passed-none}
 use Rattle.days.proofs.counted.period_before.Statement.{statement}
 use Rattle.days.proofs.counted.period_before.Tie as tie
 
@@ -33,7 +34,7 @@ sub-over-whole c = let s = c .before .before .before .before in
       arith,
       c .before .period .ensures,
       c .period2 .ensures,
-      period-rises (a .weekly) (getD (now (a .f)) 3 0 / 1440) (a .d - 1) (omega arith),
+      period-rises (a .periods) (getD (now (a .f)) 3 0 / 1440) (a .d - 1) (omega arith),
     )
 
 element-copy-out-over-whole : tie.Need-element-copy-out-over-whole
@@ -49,7 +50,7 @@ sub-begin : tie.Need-sub-begin
 sub-begin c = let s = c .before .before .before .before .before .before .before in
     let a = s .args in
     let l = now (a .f) in
-    let w = a .weekly in
+    let w = a .periods in
     let p = c .before .before .before .before .period .ensures in
     let q = c .before .before .before .period2 .ensures in
     let over = c .before .over-whole in
@@ -63,7 +64,7 @@ begin-requires : tie.Need-begin-requires
 begin-requires c κs = let s = c .before .before .before .before .before .before .before in
     let a = s .args in
     let l = now (a .f) in
-    let w = a .weekly in
+    let w = a .periods in
     let p = c .before .before .before .before .period .ensures in
     let q = c .before .before .before .period2 .ensures in
     let over = c .before .over-whole in
@@ -77,12 +78,12 @@ returns-3 : tie.Need-returns-3
 returns-3 c = let s = c .before .before .before .before .before .before .before .before in
     let a = s .args in
     let l = now (a .f) in
-    let w = a .weekly in
+    let w = a .periods in
     let p = c .before .before .before .before .before .period .ensures in
     let q = c .before .before .before .before .period2 .ensures in
     let over = c .before .before .over-whole in
     let o : over .result ≡ (periodOf w (a .d - 1) - periodOf w (getD l 3 0 / 1440)) % getD l 2 0 = rw (p, q) at (over .ensures) in
-    rw (c .begin .ensures, p, o) (last-counted l w (s .pre .1) (s .pre .2) (a .d) (omega arith) (omega (arith, o)))
+    rw (c .begin .ensures, p, o) (last-counted l w (s .pre .1) (s .pre .2) (a .d) (omega arith) (s .pre .0) (omega (arith, o)))
 
 pub period-before-spec : {M : Type 1} → statement M
 period-before-spec =

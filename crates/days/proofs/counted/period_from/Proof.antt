@@ -4,8 +4,9 @@ use Prim.Native.Nat.{_-_, _/_, _%_}
 use native.Mathlib.Omega.{arith}
 use borrow.Author.Needs.{needs}
 use denote.Ref.{now}
+use Rattle.days.specs.Steps.{periodOf}
 use lib.ListN.{getD}
-use Rattle.days.proofs.Intervals.{periodOf, period-rises, period-small, weeks-from, from-start, never-again, next-counted, short-none, short-long, passed-none}
+use Rattle.days.proofs.Intervals.{period-rises, period-small, weeks-from, from-start, never-again, next-counted, short-none, short-long, passed-none}
 use Rattle.days.proofs.counted.period_from.Statement.{statement}
 use Rattle.days.proofs.counted.period_from.Tie as tie
 
@@ -32,7 +33,7 @@ sub-over-whole c = let s = c .before .before .before .before .before in
       arith,
       c .before .before .period .ensures,
       c .period2 .ensures,
-      period-rises (a .weekly) (getD (now (a .f)) 3 0 / 1440) (a .d) (omega arith),
+      period-rises (a .periods) (getD (now (a .f)) 3 0 / 1440) (a .d) (omega arith),
     )
 
 over-whole-requires : tie.Need-over-whole-requires
@@ -45,7 +46,7 @@ returns-3 : tie.Need-returns-3
 returns-3 c = let s = c .before .before .before .before .before .before .before .before in
     let a = s .args in
     let l = now (a .f) in
-    let w = a .weekly in
+    let w = a .periods in
     let p = c .before .before .before .before .before .period .ensures in
     let q = c .before .before .before .period2 .ensures in
     let over = c .before .before .over-whole in
@@ -57,7 +58,7 @@ returns-4 : tie.Need-returns-4
 returns-4 c = let s = c .before .before .before .before .before .before .before .before .before in
     let a = s .args in
     let l = now (a .f) in
-    let w = a .weekly in
+    let w = a .periods in
     let p = c .before .before .before .before .before .before .period .ensures in
     let q = c .before .before .before .before .period2 .ensures in
     let over = c .before .before .before .over-whole in
@@ -67,7 +68,7 @@ returns-4 c = let s = c .before .before .before .before .before .before .before 
 add-begin : tie.Need-add-begin
 add-begin c = let s = c .before .before .before .before .before .before .before .before .before in
     omega
-    (arith, c .before .before .before .before .before .before .period .ensures, period-small (s .args .weekly) (s .args .d) (s .pre .0))
+    (arith, c .before .before .before .before .before .before .period .ensures, period-small (s .args .periods) (s .args .d) (s .pre .0))
 
 sub-begin : tie.Need-sub-begin
 sub-begin c = search needs
@@ -76,7 +77,7 @@ begin-requires : tie.Need-begin-requires
 begin-requires c κs = let s = c .before .before .before .before .before .before .before .before .before in
     let a = s .args in
     let l = now (a .f) in
-    let w = a .weekly in
+    let w = a .periods in
     let p = c .before .before .before .before .before .before .period .ensures in
     let q = c .before .before .before .before .period2 .ensures in
     let over = c .before .before .before .over-whole in
@@ -88,7 +89,7 @@ returns-5 : tie.Need-returns-5
 returns-5 c = let s = c .before .before .before .before .before .before .before .before .before .before in
     let a = s .args in
     let l = now (a .f) in
-    let w = a .weekly in
+    let w = a .periods in
     let p = c .before .before .before .before .before .before .before .period .ensures in
     let q = c .before .before .before .before .before .period2 .ensures in
     let over = c .before .before .before .before .over-whole in

@@ -28,8 +28,8 @@ returns-2 c = let a = c .before .before .before .before .args in
     (last-is (dayHeld (now (a .f))) (a .low) (end .result) _ (omega arith)
     (last-all-passed (dayHeld (now (a .f))) (a .low) _ (end .result) (c .before .begun .ensures) (omega arith) (omega (arith, end .ensures)) (c .if2 .taken)))
 
-walk-down-requires : tie.Need-walk-down-requires
-walk-down-requires c κs = (omega arith, omega (arith, c .before .before .before .lesser .ensures))
+last-from-requires : tie.Need-last-from-requires
+last-from-requires c κs = (omega arith, omega (arith, c .before .before .before .lesser .ensures))
 
 returns-3 : tie.Need-returns-3
 unfolding lastDay
@@ -37,7 +37,7 @@ returns-3 c = let a = c .before .before .before .before .before .before .args in
     let end = c .before .before .before .before .before .lesser in
     rw (← end .ensures)
     (last-is (dayHeld (now (a .f))) (a .low) (end .result) _ (omega arith)
-    (last-passed-none (dayHeld (now (a .f))) (a .low) _ (end .result) (c .before .before .before .begun .ensures) (omega arith) (omega (arith, end .ensures)) _ (omega arith) (c .before .walk-down .ensures) (c .if3 .taken)))
+    (last-passed-none (dayHeld (now (a .f))) (a .low) _ (end .result) (c .before .before .before .begun .ensures) (omega arith) (omega (arith, end .ensures)) _ (omega arith) (c .before .last-from .ensures) (c .if3 .taken)))
 
 returns-4 : tie.Need-returns-4
 unfolding lastDay
@@ -45,9 +45,9 @@ returns-4 c = let a = c .before .before .before .before .before .before .args in
     let end = c .before .before .before .before .before .lesser in
     rw (← end .ensures)
     (last-is (dayHeld (now (a .f))) (a .low) (end .result) _ (omega arith)
-    (last-passed (dayHeld (now (a .f))) (a .low) _ (end .result) (c .before .before .before .begun .ensures) (omega arith) (omega (arith, end .ensures)) _ (c .before .walk-down .ensures) (omega arith)))
+    (last-passed (dayHeld (now (a .f))) (a .low) _ (end .result) (c .before .before .before .begun .ensures) (omega arith) (omega (arith, end .ensures)) _ (c .before .last-from .ensures) (omega arith)))
 
 pub last-day-spec : {M : Type 1} → statement M
 last-day-spec =
     tie.close
-    (tie.spec lesser-requires returns begun-requires returns-2 walk-down-requires returns-3 returns-4)
+    (tie.spec lesser-requires returns begun-requires returns-2 last-from-requires returns-3 returns-4)

@@ -28,8 +28,8 @@ returns-2 c = let a = c .before .before .before .before .args in
     (least-is (dayHeld (now (a .f))) (a .low) (end .result) _ (omega arith)
     (least-all-passed (dayHeld (now (a .f))) (a .low) _ (end .result) (c .before .begun .ensures) (omega arith) (omega (arith, end .ensures)) (c .if2 .taken)))
 
-walk-up-requires : tie.Need-walk-up-requires
-walk-up-requires c κs = (omega arith, omega (arith, c .before .before .before .lesser .ensures))
+least-from-requires : tie.Need-least-from-requires
+least-from-requires c κs = (omega arith, omega (arith, c .before .before .before .lesser .ensures))
 
 returns-3 : tie.Need-returns-3
 unfolding leastDay
@@ -37,7 +37,7 @@ returns-3 c = let a = c .before .before .before .before .before .args in
     let end = c .before .before .before .before .lesser in
     rw (← end .ensures)
     (least-is (dayHeld (now (a .f))) (a .low) (end .result) _ (omega arith)
-    (least-passed (dayHeld (now (a .f))) (a .low) _ (end .result) (c .before .before .begun .ensures) (omega arith) (omega (arith, end .ensures)) _ (omega arith) (c .walk-up .ensures)))
+    (least-passed (dayHeld (now (a .f))) (a .low) _ (end .result) (c .before .before .begun .ensures) (omega arith) (omega (arith, end .ensures)) _ (omega arith) (c .least-from .ensures)))
 
 pub least-day-spec : {M : Type 1} → statement M
-least-day-spec = tie.close (tie.spec lesser-requires returns begun-requires returns-2 walk-up-requires returns-3)
+least-day-spec = tie.close (tie.spec lesser-requires returns begun-requires returns-2 least-from-requires returns-3)

@@ -4,6 +4,7 @@ use Prim.Native.Nat.{ℕ}
 use borrow.Author.Needs.{needs}
 use denote.Ref.{now}
 use lib.ListN.{length}
+use Rattle.frames.specs.Kinds.{rowNumbers}
 use Rattle.calendar.specs.declared.year.MonthDay.{MonthDay}
 use Rattle.days.specs.Steps.{readied}
 use Rattle.days.proofs.Readied.{walk-down, found-down}
@@ -23,20 +24,20 @@ back-from-day-requires : tie.Need-back-from-day-requires
 back-from-day-requires c κs = let s = c .before .before .before in
     let a = s .args in
     let r = c .before .ready in
-    let n : length (r .result) ≡ 16 = search needs in
+    let n : length (r .result) ≡ rowNumbers = search needs in
     let e =
     r .ensures ∙ ap (λ (k : ℕ). readied (now (a .f)) k (a .low)) (ap (λ (q : MonthDay). q .month) (c .before .before .local-date .ensures)) in
-    rw e (walk-down (now (a .f)) (a .low) (a .end) (s .pre .0) (s .pre .1) (rw e at n))
+    rw e (walk-down (now (a .f)) (a .low) (a .end) (s .pre .0) (s .pre .1) (s .pre .2) (rw e at n))
 
 returns : tie.Need-returns
 returns c = let s = c .before .before .before .before in
     let a = s .args in
     let r = c .before .before .ready in
-    let n : length (r .result) ≡ 16 = search needs in
+    let n : length (r .result) ≡ rowNumbers = search needs in
     let e =
     r .ensures
     ∙ ap (λ (k : ℕ). readied (now (a .f)) k (a .low)) (ap (λ (q : MonthDay). q .month) (c .before .before .before .local-date .ensures)) in
-    found-down (now (a .f)) (a .low) (a .end) (s .pre .0) (s .pre .1) (rw e at n) _ (rw e at (c .back-from-day .ensures))
+    found-down (now (a .f)) (a .low) (a .end) (s .pre .0) (s .pre .1) (s .pre .2) (rw e at n) _ (rw e at (c .back-from-day .ensures))
 
 pub walk-down-spec : {M : Type 1} → statement M
 walk-down-spec = tie.close (tie.spec local-date-requires ready-requires sub-back-from-day back-from-day-requires returns)

@@ -6,14 +6,13 @@ use borrow.Author.Needs.{needs}
 use borrow.Fn.Kinds.{In}
 use borrow.Fn.PlainCycle.{Measures, is, falls, and}
 use denote.Ref.{now}
-use lib.ListN.{getD}
 use Rattle.calendar.proofs.Leasts.{least-here}
 use Rattle.calendar.proofs.Windows.{month-first-next, month-days-range}
 use Rattle.calendar.specs.Window.{monthFirst, monthDays}
 use Rattle.frames.specs.Numbers.{dayHeld}
-use Rattle.days.specs.Steps.{dayPart, SetOf, Up}
+use Rattle.days.specs.Steps.{dayPart, SetOf, Up, lastDayIn}
 use Rattle.days.proofs.Answers.{holds-at}
-use Rattle.days.proofs.Walks.{up-month, up-on, up-at, last-day-top, small, day-on, first-day, passed-on, all-passed, month-passed, last-month-passed}
+use Rattle.days.proofs.Walks.{up-month, up-on, up-at, up-year, last-day-top, small, day-on, first-day, passed-on, all-passed, month-passed, last-month-passed}
 use Prim.Native.Nat.{ℕ, _<_}
 use Rattle.days.proofs.steps.day_step.Reads as day-step
 use Rattle.days.proofs.steps.day_step.Kinds as day-step-kinds
@@ -35,13 +34,13 @@ use Rattle.days.proofs.steps.+day_step+from_day+month_step.{statement}
 use Rattle.days.proofs.steps.+day_step+from_day+month_step.Tie.{close}
 
 abbrev μ-day-step : Measures 1 day-step-kinds.ps ℕ
-μ-day-step κs a = 2 * (getD (now (a .0)) 14 0 + 1 - a .1 .1 .1 .1 .0)
+μ-day-step κs a = 2 * (lastDayIn (now (a .0)) + 1 - a .1 .1 .1 .1 .0)
 
 abbrev μ-from-day : Measures 1 from-day-kinds.ps ℕ
-μ-from-day κs a = 2 * (getD (now (a .0)) 14 0 + 1 - a .1 .0) + 1
+μ-from-day κs a = 2 * (lastDayIn (now (a .0)) + 1 - a .1 .0) + 1
 
 abbrev μ-month-step : Measures 1 month-step-kinds.ps ℕ
-μ-month-step κs a = 2 * (getD (now (a .0)) 14 0 + 1 - monthFirst (a .1 .0)) + 1
+μ-month-step κs a = 2 * (lastDayIn (now (a .0)) + 1 - monthFirst (a .1 .0)) + 1
 
 abbrev day-step-at : ℕ → In 1 day-step-kinds.ps
 day-step-at t = and 1 day-step-kinds.ps (is 1 day-step-kinds.ps μ-day-step t) day-step.Pre
@@ -91,7 +90,7 @@ day-step-returns : (t : ℕ) → day-step-lts.Need-returns (
 day-step-returns t c = let s = c .before .before in
     let a = s .args in
     let p = s .pre .1 in
-    least-here (dayHeld (now (a .f))) (a .d) (getD (now (a .f)) 14 0 + 1) (omega (arith, p .0 .before))
+    least-here (dayHeld (now (a .f))) (a .d) (lastDayIn (now (a .f)) + 1) (omega (arith, p .0 .before))
     (sym (c .before .day-test .ensures) ∙ c .if1 .taken)
 
 day-step-add-counted-from : (t : ℕ) → day-step-lts.Need-add-counted-from (
@@ -177,7 +176,7 @@ day-step-returns-2 t c = let s = c .before .before .before .before .before .befo
     let l = now (a .f) in
     let out = sym (c .before .before .before .before .before .day-test .ensures) ∙ c .before .before .before .before .if1 .left in
     let passed = c .before .before .before .counted-from .ensures in
-    all-passed (dayHeld l) (a .d) _ (getD l 14 0) out passed (p .0 .before) (last-day-top l (p .0 .ready)) (c .before .if2 .taken)
+    all-passed (dayHeld l) (a .d) _ (lastDayIn l) out passed (p .0 .before) (last-day-top l (p .0 .ready)) (c .before .if2 .taken)
 
 day-step-sub-on : (t : ℕ) → day-step-lts.Need-sub-on (
   day-test-reads.Asked,
@@ -236,7 +235,7 @@ day-step-day-step-requires t c κs = let s = c .before .before .before .before .
     let p = s .pre .1 in
     let next = c .before .before .before .counted-from in
     let r : a .d + 1 ≤ next .result = next .ensures .rises in
-    let b : next .result ≤ getD (now (a .f)) 14 0 = c .before .if2 .left in
+    let b : next .result ≤ lastDayIn (now (a .f)) = c .before .if2 .left in
     let t : a .n + (next .result - a .d) ≤ monthDays (a .k) = omega (arith, p .3) in (
       omega (arith, s .pre .0),
       (
@@ -265,7 +264,7 @@ day-step-returns-3 t c = let s = c .before .before .before .before .before .befo
     let out =
     sym (c .before .before .before .before .before .before .day-test .ensures) ∙ c .before .before .before .before .before .if1 .left in
     let passed = c .before .before .before .before .counted-from .ensures in
-    passed-on (dayHeld l) (a .d) _ (getD l 14 0) out passed (p .0 .before) (last-day-top l (p .0 .ready)) _ (c .before .before .if2 .left) (c .day-step .ensures)
+    passed-on (dayHeld l) (a .d) _ (lastDayIn l) out passed (p .0 .before) (last-day-top l (p .0 .ready)) _ (c .before .before .if2 .left) (c .day-step .ensures)
 
 day-step-from-day-requires : (t : ℕ) → day-step-lts.Need-from-day-requires (
   day-test-reads.Asked,
@@ -282,8 +281,8 @@ day-step-from-day-requires t c κs = let s = c .before .before .before .before .
     let p = s .pre .1 in
     let next = c .before .before .before .counted-from in
     let r : a .d + 1 ≤ next .result = next .ensures .rises in
-    let b : next .result ≤ getD (now (a .f)) 14 0 = c .before .if2 .left in
-    (omega (arith, s .pre .0), (p .0 .ready, b))
+    let b : next .result ≤ lastDayIn (now (a .f)) = c .before .if2 .left in
+    (omega (arith, s .pre .0), (p .0 .ready, b, up-year (now (a .f)) (a .k) (a .d) (next .result) (p .0) (omega arith) b))
 
 day-step-returns-4 : (t : ℕ) → day-step-lts.Need-returns-4 (
   day-test-reads.Asked,
@@ -302,7 +301,7 @@ day-step-returns-4 t c = let s = c .before .before .before .before .before .befo
     let out =
     sym (c .before .before .before .before .before .before .day-test .ensures) ∙ c .before .before .before .before .before .if1 .left in
     let passed = c .before .before .before .before .counted-from .ensures in
-    passed-on (dayHeld l) (a .d) _ (getD l 14 0) out passed (p .0 .before) (last-day-top l (p .0 .ready)) _ (c .before .before .if2 .left) (c .from-day .ensures)
+    passed-on (dayHeld l) (a .d) _ (lastDayIn l) out passed (p .0 .before) (last-day-top l (p .0 .ready)) _ (c .before .before .if2 .left) (c .from-day .ensures)
 
 from-day-local-date-requires : (t : ℕ) → from-day-lts.Need-local-date-requires (
   local-date-reads.Asked,
@@ -330,7 +329,8 @@ from-day-month-mask-requires : (t : ℕ) → from-day-lts.Need-month-mask-requir
   month-step-below t,
   month-step.Post,
 ) (from-day-at t) from-day.Post
-from-day-month-mask-requires t c κs = c .before .pre .1 .0 .begun
+from-day-month-mask-requires t c κs = let p = c .before .pre .1 in
+    rw (c .local-date .ensures) (p .0, p .2)
 
 from-day-month-days-requires : (t : ℕ) → from-day-lts.Need-month-days-requires (
   local-date-reads.Asked,
@@ -364,7 +364,7 @@ from-day-day-step-requires t c κs = let s = c .before .before .before .before i
     let e = c .before .before .before .local-date .ensures in
     let h = holds-at (a .d) (omega (arith, p .1, last-day-top (now (a .f)) (p .0))) in (
       omega (arith, s .pre .0),
-      (rw e (up-at (now (a .f)) (a .d) (p .0) (p .1)), rw e (h .1), rw e (h .2), c .month-days .ensures, c .before .before .month-mask .ensures),
+      (rw e (up-at (now (a .f)) (a .d) (p .0) (p .1) (p .2)), rw e (h .1), rw e (h .2), c .month-days .ensures, c .before .before .month-mask .ensures),
     )
 
 from-day-returns : (t : ℕ) → from-day-lts.Need-returns (
@@ -441,7 +441,7 @@ from-day-returns-2 t c = let s = c .before .before .before .before .before .befo
     let p = s .pre .1 in
     let k = c .before .before .before .before .before .local-date .result .month in
     let u : Up (now (a .f)) k (a .d) =
-    rw (c .before .before .before .before .before .local-date .ensures) (up-at (now (a .f)) (a .d) (p .0) (p .1)) in
+    rw (c .before .before .before .before .before .local-date .ensures) (up-at (now (a .f)) (a .d) (p .0) (p .1) (p .2)) in
     let z : SetOf (dayPart (now (a .f))) (dayHeld (now (a .f))) k 0 =
     rw (c .before .before .before .if1 .left) at (c .before .before .before .before .month-mask .ensures) in
     last-month-passed (now (a .f)) k (a .d) u z (c .before .if2 .taken)
@@ -478,7 +478,7 @@ from-day-month-step-requires t c κs = let s = c .before .before .before .before
     let p = s .pre .1 in
     let k = c .before .before .before .before .local-date .result .month in
     let u : Up (now (a .f)) k (a .d) =
-    rw (c .before .before .before .before .local-date .ensures) (up-at (now (a .f)) (a .d) (p .0) (p .1)) in (
+    rw (c .before .before .before .before .local-date .ensures) (up-at (now (a .f)) (a .d) (p .0) (p .1) (p .2)) in (
       omega (arith, s .pre .0, p .1, u .here .to, month-first-next k (u .here .month)),
       up-month (now (a .f)) k (a .d) u (c .if2 .left),
     )
@@ -500,7 +500,7 @@ from-day-returns-3 t c = let s = c .before .before .before .before .before .befo
     let p = s .pre .1 in
     let k = c .before .before .before .before .before .local-date .result .month in
     let u : Up (now (a .f)) k (a .d) =
-    rw (c .before .before .before .before .before .local-date .ensures) (up-at (now (a .f)) (a .d) (p .0) (p .1)) in
+    rw (c .before .before .before .before .before .local-date .ensures) (up-at (now (a .f)) (a .d) (p .0) (p .1) (p .2)) in
     let z : SetOf (dayPart (now (a .f))) (dayHeld (now (a .f))) k 0 =
     rw (c .before .before .before .if1 .left) at (c .before .before .before .before .month-mask .ensures) in
     month-passed (now (a .f)) k (a .d) u z _ (c .month-step .ensures)
@@ -517,7 +517,7 @@ month-step-passing-mask-requires : (t : ℕ) → month-step-lts.Need-passing-mas
   month-step-below t,
   month-step.Post,
 ) (month-step-at t) month-step.Post
-month-step-passing-mask-requires t c κs = c .pre .1 .ready .begun
+month-step-passing-mask-requires t c κs = (c .pre .1 .ready, c .pre .1 .year)
 
 month-step-month-days-requires : (t : ℕ) → month-step-lts.Need-month-days-requires (
   passing-mask-reads.Asked,

@@ -1,92 +1,16 @@
--- The loop's invariant: what is left, taken up in what was marked, makes the whole list.
-use mathlib.Core.Path.{_≡_, refl, sym, ap, _∙_}
-use Prim.Native.Nat.{ℕ, _+_, _-_}
-use native.Mathlib.Omega.{arith}
+-- The list of signed numbers up to 31.
+use mathlib.Core.Path.{_∙_}
 use denote.Ref.{now}
-use lib.ListN.{length}
-use Rattle.words.proofs.Folding.{takenAs, loop-not, loop-last, loop-on, loop-next}
-use Rattle.words.specs.Answers.{signedRead}
-use Rattle.words.specs.Lists.{listAt}
-use Rattle.words.specs.Reads.{signedAt}
-use Rattle.entries.specs.Lists.{numbersRead, numbersAs}
-use Rattle.entries.specs.declared.numbers.Listed.{Listed}
-use Rattle.entries.proofs.Listed.{numbersIs, numbers-taken}
-use Rattle.entries.proofs.Marking.{takeNumber}
-use Rattle.words.proofs.Afters.{signed-after}
+use Rattle.entries.proofs.Listed.{numbers-as}
 use borrow.Author.Needs.{needs}
 use Rattle.entries.proofs.numbers.numbers_at.Statement.{statement}
 use Rattle.entries.proofs.numbers.numbers_at.Tie as tie
 
-abbrev Inv-loop : tie.InvT-loop
-Inv-loop s at₀ m₀ at m =
-    takenAs takeNumber numbersIs Listed.Not m (listAt (λ (e : ℕ). signedRead (signedAt s e)) 44 s (length s + 1) at) ≡ numbersAs (numbersRead s at₀)
+list-at-requires : tie.Need-list-at-requires
+list-at-requires c κs = search needs
 
-abbrev μ-loop : tie.MeasureT-loop
-μ-loop s at₀ m₀ at m = length s - at
-
-loop-holds : tie.Need-loop-holds Inv-loop μ-loop
-loop-holds c = numbers-taken (now (c .before .args .s)) (c .before .args .c .at)
-
-signed-requires : tie.Need-signed-requires Inv-loop μ-loop
-signed-requires c κs = search needs
-
-enum-known-minus : tie.Need-enum-known-minus Inv-loop μ-loop
-enum-known-minus c = search needs
-
-enum-told : tie.Need-enum-told Inv-loop μ-loop
-enum-told c = search needs
-
-returns : tie.Need-returns Inv-loop μ-loop
-returns c = let a = c .before .before .before .before .before .args in
-    loop-not (λ (e : ℕ). signedRead (signedAt (now (a .s)) e)) 44 (now (a .s)) (omega arith) (λ at x e. signed-after (now (a .s)) at x e)
-    takeNumber numbersIs Listed.Not (c .before .before .before .loop .m) (c .before .before .before .loop .at)
-    (rw (sym (c .before .before .signed .ensures) ∙ c .enum-told .given .1) refl)
-    ∙ c .before .before .before .loop .inv
-
-with-number-requires : tie.Need-with-number-requires Inv-loop μ-loop
-with-number-requires c κs = search needs
-
-byte-requires : tie.Need-byte-requires Inv-loop μ-loop
-byte-requires c κs = search needs
-
-returns-2 : tie.Need-returns-2 Inv-loop μ-loop
-returns-2 c = let a = c .before .before .before .before .before .before .before .before .before .args in
-    rw (c .before .before .with-number .ensures)
-    (loop-last (λ (e : ℕ). signedRead (signedAt (now (a .s)) e)) 44 (now (a .s)) (omega arith) (λ at x e. signed-after (now (a .s)) at x e) takeNumber numbersIs Listed.Not (c .before .before .before .before .before .before .before .loop .m) (c .before .before .before .before .before .before .before .loop .at) _ _ (ap signedRead (sym (c .before .before .before .before .before .before .signed .ensures) ∙ c .before .before .before .before .minus .given .1)) (λ q. c .if1 .taken (c .before .byte .ensures ∙ q)) ∙ c .before .before .before .before .before .before .before .loop .inv)
-
-add-at : tie.Need-add-at Inv-loop μ-loop
-add-at c = let a = c .before .before .before .before .before .before .before .before .before .before .args in
-    omega (
-      arith,
-      loop-on (λ (e : ℕ). signedRead (signedAt (now (a .s)) e)) 44 (now (a .s)) (omega arith) (λ at x e. signed-after (now (a .s)) at x e) takeNumber numbersIs Listed.Not (c .before .before .before .before .before .before .before .before .loop .m) (c .before .before .before .before .before .before .before .before .loop .at) _ _ (ap signedRead (sym (c .before .before .before .before .before .before .before .signed .ensures) ∙ c .before .before .before .before .before .minus .given .1)) (sym (c .before .before .byte .ensures) ∙ c .before .if1 .left),
-    )
-
-loop-less : tie.Need-loop-less Inv-loop μ-loop
-loop-less c = let a = c .before .before .before .before .before .before .before .before .before .before .args in
-    omega (
-      arith,
-      loop-on (λ (e : ℕ). signedRead (signedAt (now (a .s)) e)) 44 (now (a .s)) (omega arith) (λ at x e. signed-after (now (a .s)) at x e) takeNumber numbersIs Listed.Not (c .before .before .before .before .before .before .before .before .loop .m) (c .before .before .before .before .before .before .before .before .loop .at) _ _ (ap signedRead (sym (c .before .before .before .before .before .before .before .signed .ensures) ∙ c .before .before .before .before .before .minus .given .1)) (sym (c .before .before .byte .ensures) ∙ c .before .if1 .left),
-    )
-
-loop-again : tie.Need-loop-again Inv-loop μ-loop
-loop-again c = let a = c .before .before .before .before .before .before .before .before .before .before .args in
-    rw (c .before .before .before .with-number .ensures)
-    (loop-next (λ (e : ℕ). signedRead (signedAt (now (a .s)) e)) 44 (now (a .s)) (omega arith) (λ at x e. signed-after (now (a .s)) at x e) takeNumber numbersIs Listed.Not (c .before .before .before .before .before .before .before .before .loop .m) (c .before .before .before .before .before .before .before .before .loop .at) _ _ (ap signedRead (sym (c .before .before .before .before .before .before .before .signed .ensures) ∙ c .before .before .before .before .before .minus .given .1)) (sym (c .before .before .byte .ensures) ∙ c .before .if1 .left) ∙ c .before .before .before .before .before .before .before .before .loop .inv)
+returns : tie.Need-returns
+returns c = let a = c .before .before .args in c .list-at .ensures ∙ numbers-as (now (a .s)) (a .c .at)
 
 pub numbers-at-spec : {M : Type 1} → statement M
-numbers-at-spec =
-    tie.close
-    (tie.spec
-    Inv-loop
-    μ-loop
-    loop-holds
-    signed-requires
-    enum-known-minus
-    enum-told
-    returns
-    with-number-requires
-    byte-requires
-    returns-2
-    add-at
-    loop-less
-    loop-again)
+numbers-at-spec = tie.close (tie.spec list-at-requires returns)

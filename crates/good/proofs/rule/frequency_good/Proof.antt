@@ -1,7 +1,7 @@
 -- The limits of the frequency that is given, and none of another.
 use mathlib.Core.Path.{sym}
+use Rattle.good.proofs.Goods.{daily-good, weekly-good, monthly-good, yearly-good, no-frequency}
 use borrow.Author.Needs.{needs}
-use Rattle.good.proofs.Goods.{daily-good, weekly-good, monthly-good, no-frequency}
 use Rattle.good.proofs.rule.frequency_good.Statement.{statement}
 use Rattle.good.proofs.rule.frequency_good.Tie as tie
 
@@ -11,21 +11,14 @@ no-limit-requires c κs = search needs
 no-limit-requires-2 : tie.Need-no-limit-requires-2
 no-limit-requires-2 c κs = search needs
 
-no-limit-requires-3 : tie.Need-no-limit-requires-3
-no-limit-requires-3 c κs = search needs
-
 both-requires : tie.Need-both-requires
 both-requires c κs = search needs
 
 returns : tie.Need-returns
-returns c =
-    let n = c .before .before .before in
-    rw (
-      daily-good (n .before .before .before .args .f) (c .before .if1 .taken),
-      c .both .ensures,
-      n .before .before .no-limit .ensures,
-      n .before .no-limit2 .ensures,
-    )
+returns c = rw (daily-good (c .before .before .before .before .before .args .f) (c .if1 .taken), c .before .before .both .ensures, c .before .before .before .no-limit2 .ensures, c .before .before .before .before .no-limit .ensures)
+
+no-limit-requires-3 : tie.Need-no-limit-requires-3
+no-limit-requires-3 c κs = search needs
 
 both-requires-2 : tie.Need-both-requires-2
 both-requires-2 c κs = search needs
@@ -33,46 +26,37 @@ both-requires-2 c κs = search needs
 both-requires-3 : tie.Need-both-requires-3
 both-requires-3 c κs = search needs
 
+returns-2 : tie.Need-returns-2
+returns-2 c = rw (
+  weekly-good (c .before .before .before .before .before .before .before .before .before .before .before .args .f) (c .before .before .before .before .if2 .taken),
+  c .both3 .ensures,
+  c .before .both2 .ensures,
+  c .before .before .no-limit3 .ensures,
+  c .before .before .before .before .before .before .before .before .both .ensures,
+  c .before .before .before .before .before .before .before .before .before .no-limit2 .ensures,
+  c .before .before .before .before .before .before .before .before .before .before .no-limit .ensures,
+)
+
+any-day-requires : tie.Need-any-day-requires
+any-day-requires c κs = search needs
+
+returns-3 : tie.Need-returns-3
+returns-3 c = rw (monthly-good (c .before .before .before .before .before .before .before .before .before .before .args .f) (c .before .if3 .taken), c .any-day .ensures)
+
+any-day-requires-2 : tie.Need-any-day-requires-2
+any-day-requires-2 c κs = search needs
+
+months-named-requires : tie.Need-months-named-requires
+months-named-requires c κs = search needs
+
 both-requires-4 : tie.Need-both-requires-4
 both-requires-4 c κs = search needs
 
-returns-2 : tie.Need-returns-2
-returns-2 c =
-    let t = c .before .before .before .before in
-    let n = t .before .before .before .before in
-    rw (
-      weekly-good (n .before .before .before .args .f) (t .if2 .taken),
-      c .both4 .ensures,
-      c .before .both3 .ensures,
-      c .before .before .both2 .ensures,
-      n .no-limit3 .ensures,
-      n .before .before .no-limit .ensures,
-      n .before .no-limit2 .ensures,
-    )
-
-both-requires-5 : tie.Need-both-requires-5
-both-requires-5 c κs = search needs
-
-both-requires-6 : tie.Need-both-requires-6
-both-requires-6 c κs = search needs
-
-returns-3 : tie.Need-returns-3
-returns-3 c =
-    let t = c .before .before .before in
-    let n = t .before .before .before .before .before .before in
-    rw (
-      monthly-good (n .before .before .before .args .f) (t .if3 .taken),
-      c .both6 .ensures,
-      c .before .both5 .ensures,
-      n .no-limit3 .ensures,
-      n .before .before .no-limit .ensures,
-    )
-
 returns-4 : tie.Need-returns-4
-returns-4 c =
-    let b = c .before .before in
-    let a = b .before .before in
-    sym (no-frequency (a .before .before .before .before .before .args .f) (a .if1 .left) (b .if2 .left) (c .if3 .left))
+returns-4 c = rw (yearly-good (c .before .before .before .before .before .before .before .before .before .before .before .before .before .before .args .f) (c .before .before .before .if4 .taken), c .both4 .ensures, c .before .months-named .ensures, c .before .before .any-day2 .ensures)
+
+returns-5 : tie.Need-returns-5
+returns-5 c = sym (no-frequency (c .before .before .before .before .before .before .before .before .before .before .before .args .f) (c .before .before .before .before .before .before .if1 .left) (c .before .before .before .before .if2 .left) (c .before .before .if3 .left) (c .if4 .left))
 
 pub frequency-good-spec : {M : Type 1} → statement M
 frequency-good-spec =
@@ -80,14 +64,16 @@ frequency-good-spec =
     (tie.spec
     no-limit-requires
     no-limit-requires-2
-    no-limit-requires-3
     both-requires
     returns
+    no-limit-requires-3
     both-requires-2
     both-requires-3
-    both-requires-4
     returns-2
-    both-requires-5
-    both-requires-6
+    any-day-requires
     returns-3
-    returns-4)
+    any-day-requires-2
+    months-named-requires
+    both-requires-4
+    returns-4
+    returns-5)

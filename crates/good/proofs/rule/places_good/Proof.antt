@@ -57,14 +57,22 @@ returns-4 c =
 pair-good-requires-2 : tie.Need-pair-good-requires-2
 pair-good-requires-2 c κs = search needs
 
+only-bits-requires-2 : tie.Need-only-bits-requires-2
+only-bits-requires-2 c κs = search needs
+
+both-requires : tie.Need-both-requires
+both-requires c κs = search needs
+
 returns-5 : tie.Need-returns-5
 unfolding placesGood
 returns-5 c =
-    let e4 = c .before in
+    let e4 = c .before .before .before in
     let e3 = e4 .before .before in
     let e2 = e3 .before .before .before in
     let e1 = e2 .before .before in
-    rw (weekdays e1, days e2, ordinals e3, passed (e4 .before .ordinals-good2 .ensures) (e4 .if4 .left)) (c .pair-good2 .ensures)
+    let months = c .before .only-bits2 .ensures in
+    let positions = c .before .before .pair-good2 .ensures in
+    rw (weekdays e1, days e2, ordinals e3, passed (e4 .before .ordinals-good2 .ensures) (e4 .if4 .left)) (rw (positions, months) at (c .both .ensures))
 
 pub places-good-spec : {M : Type 1} → statement M
 places-good-spec =
@@ -79,4 +87,6 @@ places-good-spec =
     ordinals-good-requires-2
     returns-4
     pair-good-requires-2
+    only-bits-requires-2
+    both-requires
     returns-5)

@@ -31,6 +31,9 @@ enum-known-x-5 c = search needs
 enum-known-x-6 : tie.Need-enum-known-x-6
 enum-known-x-6 c = search needs
 
+enum-known-x-7 : tie.Need-enum-known-x-7
+enum-known-x-7 c = search needs
+
 returns : tie.Need-returns
 returns c = search needs
 
@@ -52,6 +55,9 @@ returns-6 c = search needs
 returns-7 : tie.Need-returns-7
 returns-7 c = search needs
 
+returns-8 : tie.Need-returns-8
+returns-8 c = search needs
+
 pub good-in-spec : {M : Type 1} → statement M
 good-in-spec =
     tie.close
@@ -65,10 +71,12 @@ good-in-spec =
     enum-known-x-4
     enum-known-x-5
     enum-known-x-6
+    enum-known-x-7
     returns
     returns-2
     returns-3
     returns-4
     returns-5
     returns-6
-    returns-7)
+    returns-7
+    returns-8)

@@ -32,6 +32,9 @@ enum-known-x-6 c = search needs
 enum-known-x-7 : tie.Need-enum-known-x-7
 enum-known-x-7 c = search needs
 
+enum-known-x-8 : tie.Need-enum-known-x-8
+enum-known-x-8 c = search needs
+
 returns : tie.Need-returns
 unfolding withValue
 returns c = rw (c .before .x .given .1) refl
@@ -60,6 +63,10 @@ returns-7 : tie.Need-returns-7
 unfolding withValue
 returns-7 c = rw (c .before .x7 .given .1) refl
 
+returns-8 : tie.Need-returns-8
+unfolding withValue
+returns-8 c = rw (c .before .x8 .given .1) refl
+
 pub with-value-spec : {M : Type 1} → statement M
 with-value-spec =
     tie.close
@@ -73,10 +80,12 @@ with-value-spec =
     enum-known-x-5
     enum-known-x-6
     enum-known-x-7
+    enum-known-x-8
     returns
     returns-2
     returns-3
     returns-4
     returns-5
     returns-6
-    returns-7)
+    returns-7
+    returns-8)

@@ -23,11 +23,21 @@ slice-aggregate-or-word-3 c = search needs
 or-word-requires-3 : tie.Need-or-word-requires-3
 or-word-requires-3 c κs = search needs
 
+slice-aggregate-or-word-4 : tie.Need-slice-aggregate-or-word-4
+slice-aggregate-or-word-4 c = search needs
+
+or-word-requires-4 : tie.Need-or-word-requires-4
+or-word-requires-4 c κs = search needs
+
 returns : tie.Need-returns
 unfolding orWords frequencyWords
 returns c =
-    rw (c .or-word3 .ensures, c .before .before .or-word2 .ensures, c .before .before .before .before .or-word .ensures)
-    (or-words _ _ frequencyWords)
+    rw (
+      c .or-word4 .ensures,
+      c .before .before .or-word3 .ensures,
+      c .before .before .before .before .or-word2 .ensures,
+      c .before .before .before .before .before .before .or-word .ensures,
+    ) (or-words _ _ frequencyWords)
 
 pub frequency-at-spec : {M : Type 1} → statement M
 frequency-at-spec =
@@ -39,4 +49,6 @@ frequency-at-spec =
     or-word-requires-2
     slice-aggregate-or-word-3
     or-word-requires-3
+    slice-aggregate-or-word-4
+    or-word-requires-4
     returns)

@@ -47,17 +47,24 @@ slice-aggregate-or-word-7 c = search needs
 or-word-requires-7 : tie.Need-or-word-requires-7
 or-word-requires-7 c κs = search needs
 
+slice-aggregate-or-word-8 : tie.Need-slice-aggregate-or-word-8
+slice-aggregate-or-word-8 c = search needs
+
+or-word-requires-8 : tie.Need-or-word-requires-8
+or-word-requires-8 c κs = search needs
+
 returns : tie.Need-returns
 unfolding orWords partHeads
 returns c =
     rw (
-      c .or-word7 .ensures,
-      c .before .before .or-word6 .ensures,
-      c .before .before .before .before .or-word5 .ensures,
-      c .before .before .before .before .before .before .or-word4 .ensures,
-      c .before .before .before .before .before .before .before .before .or-word3 .ensures,
-      c .before .before .before .before .before .before .before .before .before .before .or-word2 .ensures,
-      c .before .before .before .before .before .before .before .before .before .before .before .before .or-word .ensures,
+      c .or-word8 .ensures,
+      c .before .before .or-word7 .ensures,
+      c .before .before .before .before .or-word6 .ensures,
+      c .before .before .before .before .before .before .or-word5 .ensures,
+      c .before .before .before .before .before .before .before .before .or-word4 .ensures,
+      c .before .before .before .before .before .before .before .before .before .before .or-word3 .ensures,
+      c .before .before .before .before .before .before .before .before .before .before .before .before .or-word2 .ensures,
+      c .before .before .before .before .before .before .before .before .before .before .before .before .before .before .or-word .ensures,
     ) (or-words _ _ partHeads)
 
 pub name-at-spec : {M : Type 1} → statement M
@@ -78,4 +85,6 @@ name-at-spec =
     or-word-requires-6
     slice-aggregate-or-word-7
     or-word-requires-7
+    slice-aggregate-or-word-8
+    or-word-requires-8
     returns)

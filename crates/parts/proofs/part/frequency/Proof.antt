@@ -13,11 +13,12 @@ use borrow.Author.Needs.{needs}
 use Rattle.parts.proofs.part.frequency.Statement.{statement}
 use Rattle.parts.proofs.part.frequency.Tie as tie
 
-number : (k : ℕ) → k < 3 → frequencyNumber (frequencyOf k) ≡ k + 1
+number : (k : ℕ) → k < 4 → frequencyNumber (frequencyOf k) ≡ k + 1
 number zero h = refl
 number (suc zero) h = refl
 number (suc (suc zero)) h = refl
-number (suc (suc (suc k))) h = absurd (omega arith)
+number (suc (suc (suc zero))) h = refl
+number (suc (suc (suc (suc k)))) h = absurd (omega arith)
 
 frequency-at-requires : tie.Need-frequency-at-requires
 frequency-at-requires c κs = search needs
@@ -38,14 +39,14 @@ add-t6 : tie.Need-add-t6
 unfolding frequencyWords
 add-t6 c = let a = c .before .before .before .before .before .args in
     let w = named-is _ _ _ (sym (c .before .k .given .1) ∙ c .before .before .before .frequency-at .ensures) in
-    let l : c .before .k .given .0 .0 < 3 = one-below frequencyWords (now (a .s)) (a .c .at) _ _ w in
+    let l : c .before .k .given .0 .0 < 4 = one-below frequencyWords (now (a .s)) (a .c .at) _ _ w in
     search needs
 
 returns-2 : tie.Need-returns-2
 unfolding valueRead partAs frequencyWords
 returns-2 c = let a = c .before .before .before .before .before .args in
     let w = named-is _ _ _ (sym (c .before .k .given .1) ∙ c .before .before .before .frequency-at .ensures) in
-    let l : c .before .k .given .0 .0 < 3 = one-below frequencyWords (now (a .s)) (a .c .at) _ _ w in
+    let l : c .before .k .given .0 .0 < 4 = one-below frequencyWords (now (a .s)) (a .c .at) _ _ w in
     rw (w, number (c .before .k .given .0 .0) l) refl
 
 pub frequency-spec : {M : Type 1} → statement M

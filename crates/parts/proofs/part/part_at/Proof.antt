@@ -1,6 +1,6 @@
 -- By the name.
 use mathlib.Core.Path.{_≡_, refl, sym, _∙_}
-use Prim.Native.Nat.{_<_}
+use Prim.Native.Nat.{ℕ, _+_, _<_, _≤_}
 use native.Mathlib.Omega.{arith}
 use denote.Ref.{now}
 use Rattle.words.specs.Answers.{oneAt}
@@ -11,6 +11,9 @@ use Rattle.words.proofs.Afters.{one-below}
 use borrow.Author.Needs.{needs}
 use Rattle.parts.proofs.part.part_at.Statement.{statement}
 use Rattle.parts.proofs.part.part_at.Tie as tie
+
+past : (n k : ℕ) → n ≤ k → (k ≡ n → ⊥) → n + 1 ≤ k
+past n k h d = omega arith
 
 name-at-requires : tie.Need-name-at-requires
 name-at-requires c κs = search needs
@@ -47,6 +50,9 @@ by-month-day-requires c κs = search needs
 
 by-set-pos-requires : tie.Need-by-set-pos-requires
 by-set-pos-requires c κs = search needs
+
+by-month-requires : tie.Need-by-month-requires
+by-month-requires c κs = search needs
 
 returns-2 : tie.Need-returns-2
 returns-2 c = let a = c .before .before .before .before .before .before .before .args in
@@ -85,22 +91,24 @@ returns-7 c = let a = c .before .before .before .before .before .before .before 
     rw (part-value (now (a .s)) (a .c .at) _ _ w, c .before .match2 .keys6) (c .by-month-day .ensures)
 
 returns-8 : tie.Need-returns-8
-unfolding partHeads
 returns-8 c = let a = c .before .before .before .before .before .before .before .args in
     let w =
     named-is (oneAt partHeads (now (a .s)) (a .c .at)) _ _ (sym (c .before .before .before .name .given .1) ∙ c .before .before .before .before .before .name-at .ensures) in
-    let l : c .before .before .before .name .given .0 .0 < 7 = one-below partHeads (now (a .s)) (a .c .at) _ _ w in
-    let q : c .before .before .before .name .given .0 .0 ≡ 6 =
-    omega (
-      arith,
-      c .before .match2 .rest .1,
-      c .before .match2 .rest .0 .1,
-      c .before .match2 .rest .0 .0 .1,
-      c .before .match2 .rest .0 .0 .0 .1,
-      c .before .match2 .rest .0 .0 .0 .0 .1,
-      c .before .match2 .rest .0 .0 .0 .0 .0 .1,
-    ) in
-    rw (part-value (now (a .s)) (a .c .at) _ _ w, q) (c .by-set-pos .ensures)
+    rw (part-value (now (a .s)) (a .c .at) _ _ w, c .before .match2 .keys7) (c .by-set-pos .ensures)
+
+returns-9 : tie.Need-returns-9
+unfolding partHeads
+returns-9 c = let a = c .before .before .before .before .before .before .before .args in
+    let w =
+    named-is (oneAt partHeads (now (a .s)) (a .c .at)) _ _ (sym (c .before .before .before .name .given .1) ∙ c .before .before .before .before .before .name-at .ensures) in
+    let l : c .before .before .before .name .given .0 .0 < 8 = one-below partHeads (now (a .s)) (a .c .at) _ _ w in
+    let k : ℕ = c .before .before .before .name .given .0 .0 in
+    let n = c .before .match2 .rest in
+    let two : 2 ≤ k = past 1 k (past 0 k (omega arith) (n .0 .0 .0 .0 .0 .0 .1)) (n .0 .0 .0 .0 .0 .1) in
+    let four : 4 ≤ k = past 3 k (past 2 k two (n .0 .0 .0 .0 .1)) (n .0 .0 .0 .1) in
+    let six : 6 ≤ k = past 5 k (past 4 k four (n .0 .0 .1)) (n .0 .1) in
+    let q : k ≡ 7 = omega (arith, past 6 k six (n .1)) in
+    rw (part-value (now (a .s)) (a .c .at) _ _ w, q) (c .by-month .ensures)
 
 pub part-at-spec : {M : Type 1} → statement M
 part-at-spec =
@@ -117,10 +125,12 @@ part-at-spec =
     by-day-requires
     by-month-day-requires
     by-set-pos-requires
+    by-month-requires
     returns-2
     returns-3
     returns-4
     returns-5
     returns-6
     returns-7
-    returns-8)
+    returns-8
+    returns-9)

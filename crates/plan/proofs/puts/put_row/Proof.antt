@@ -4,6 +4,7 @@ use Prim.Native.Nat.{_+_, _-_, _*_, _≤_}
 use native.Mathlib.Omega.{arith}
 use borrow.Author.Needs.{needs}
 use lib.ListN.{length}
+use Rattle.frames.specs.Kinds.{rowNumbers}
 use Rattle.hex.proofs.Fields.{widths, total, putAll, all-put}
 use Rattle.plan.specs.Fits.{pairsAt}
 use Rattle.plan.proofs.Placing.{next-pair, no-pair}
@@ -12,10 +13,10 @@ use Rattle.plan.proofs.puts.put_row.Tie as tie
 
 abbrev Inv-loop : tie.InvT-loop
 Inv-loop buf₀ at sizes row place₀ i₀ buf place i =
-    (i ≤ 16) × (length buf ≡ length buf₀) × (place + 2 * total (widths (pairsAt sizes row i)) ≤ length buf₀) × (putAll buf place (pairsAt sizes row i) ≡ putAll buf₀ at (pairsAt sizes row 0))
+    (i ≤ rowNumbers) × (length buf ≡ length buf₀) × (place + 2 * total (widths (pairsAt sizes row i)) ≤ length buf₀) × (putAll buf place (pairsAt sizes row i) ≡ putAll buf₀ at (pairsAt sizes row 0))
 
 abbrev μ-loop : tie.MeasureT-loop
-μ-loop buf₀ at sizes row place₀ i₀ buf place i = 16 - i
+μ-loop buf₀ at sizes row place₀ i₀ buf place i = rowNumbers - i
 
 loop-holds : tie.Need-loop-holds Inv-loop μ-loop
 loop-holds c = (omega arith, refl, c .before .pre, refl)

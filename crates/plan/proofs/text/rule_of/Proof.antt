@@ -28,10 +28,13 @@ ends-at-requires-2 c κs = search needs
 ends-at-requires-3 : tie.Need-ends-at-requires-3
 ends-at-requires-3 c κs = search needs
 
+number-requires-6 : tie.Need-number-requires-6
+number-requires-6 c κs = search needs
+
 returns : tie.Need-returns
 unfolding ruleFrom
 returns c = rw
-    (c .ends-at3 .ensures, c .before .ends-at2 .ensures, c .before .before .ends-at .ensures, c .before .before .before .number5 .ensures, c .before .before .before .before .number4 .ensures, c .before .before .before .before .before .number3 .ensures, c .before .before .before .before .before .before .number2 .ensures, c .before .before .before .before .before .before .before .number .ensures)
+    (c .number6 .ensures, c .before .ends-at3 .ensures, c .before .before .ends-at2 .ensures, c .before .before .before .ends-at .ensures, c .before .before .before .before .number5 .ensures, c .before .before .before .before .before .number4 .ensures, c .before .before .before .before .before .before .number3 .ensures, c .before .before .before .before .before .before .before .number2 .ensures, c .before .before .before .before .before .before .before .before .number .ensures)
 
 pub rule-of-spec : {M : Type 1} → statement M
 rule-of-spec =
@@ -45,4 +48,5 @@ rule-of-spec =
     ends-at-requires
     ends-at-requires-2
     ends-at-requires-3
+    number-requires-6
     returns)

@@ -10,9 +10,13 @@ weekdays-in-requires c κs = search needs
 days-in-requires : tie.Need-days-in-requires
 days-in-requires c κs = search needs
 
+months-in-requires : tie.Need-months-in-requires
+months-in-requires c κs = search needs
+
 returns : tie.Need-returns
 unfolding endless
-returns c = rw (c .days-in .ensures, c .before .weekdays-in .ensures)
+returns c = rw (c .months-in .ensures, c .before .days-in .ensures, c .before .before .weekdays-in .ensures)
 
 pub endless-spec : {M : Type 1} → statement M
-endless-spec = tie.close (tie.spec weekdays-in-requires days-in-requires returns)
+endless-spec =
+    tie.close (tie.spec weekdays-in-requires days-in-requires months-in-requires returns)
