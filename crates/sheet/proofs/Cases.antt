@@ -1,7 +1,7 @@
 -- The sheets hold what the document says: the definitions are computed.
 use mathlib.Core.Bool.{true}
 use mathlib.Core.Path.{_≡_, refl}
-use Rattle.sheet.specs.Cases.{caseH, caseI, caseJ, caseK, caseL, caseRange, casePlace, caseExcept, caseRanks, caseLeap, caseMonths, caseYearPlaces, caseYearOrdinals, caseElections, caseYearDays, caseYearRanks}
+use Rattle.sheet.specs.Cases.{caseH, caseI, caseJ, caseK, caseL, caseRange, casePlace, caseExcept, caseRanks, caseLeap, caseMonths, caseYearPlaces, caseYearOrdinals, caseElections, caseYearDays, caseYearRanks, withSeconds, withoutSeconds, caseSeconds, caseSecondRanks, caseSecondDigits}
 use Rattle.sheet.specs.Open.{opened}
 
 pub h : caseH ≡ true
@@ -67,3 +67,20 @@ year-days = refl
 pub year-ranks : caseYearRanks ≡ true
 unfolding caseYearRanks opened
 year-ranks = refl
+
+pub seconds : caseSeconds ≡ true
+unfolding caseSeconds opened
+seconds = refl
+
+-- line by line the same forms
+pub both-forms : withSeconds ≡ withoutSeconds
+unfolding withSeconds withoutSeconds opened
+both-forms = refl
+
+pub second-ranks : caseSecondRanks ≡ true
+unfolding caseSecondRanks opened
+second-ranks = refl
+
+pub second-digits : caseSecondDigits ≡ true
+unfolding caseSecondDigits opened
+second-digits = refl

@@ -3,7 +3,7 @@ use mathlib.Core.Bool.{true, _&&_}
 use mathlib.Core.Path.{_≡_, sym, subst}
 use Prim.Native.Nat.{ℕ, _+_, _<_, _≤_}
 use native.Mathlib.Omega.{arith}
-use lib.Dec.{T, leb, leb→le}
+use lib.Dec.{T, leb, eqb, leb→le}
 use Rattle.calendar.proofs.Every.{left, right}
 use Rattle.calendar.proofs.Months.{month-ends, month-of-day}
 use Rattle.calendar.proofs.Windows.{window-year}
@@ -25,7 +25,7 @@ pub record InRange (t : Time) : Type 0 where
 pub in-range : (t : Time) → timeInRange t ≡ true → InRange t
 unfolding timeInRange
 in-range t e =
-    let w : T (within 2000 2099 (t .year) && (within 1 (monthLength (leapYear (t .year)) (t .month)) (t .day) && (leb (t .hour) 23 && leb (t .minute) 59))) =
+    let w : T (within 2000 2099 (t .year) && (within 1 (monthLength (leapYear (t .year)) (t .month)) (t .day) && (leb (t .hour) 23 && (leb (t .minute) 59 && eqb (t .second) 0)))) =
     subst T (sym e) tt in
     let y = left (within 2000 2099 (t .year)) _ w in
     let more = right (within 2000 2099 (t .year)) _ w in
@@ -37,7 +37,7 @@ in-range t e =
       low = leb→le _ _ (left (leb 1 (t .day)) _ d);
       high = leb→le _ _ (right (leb 1 (t .day)) _ d);
       hour = leb→le _ _ (left (leb (t .hour) 23) _ clock);
-      minute = leb→le _ _ (right (leb (t .hour) 23) _ clock);
+      minute = leb→le _ _ (left (leb (t .minute) 59) _ (right (leb (t .hour) 23) _ clock));
     }
 
 -- a date of the years 2000 to 2099 is a day of the window

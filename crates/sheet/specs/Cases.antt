@@ -24,7 +24,7 @@ sheet text = formsOf (readSheet (bytes text))
 
 -- the local minute of a date and a time
 abbrev pub minute : ℕ → ℕ → ℕ → ℕ → ℕ → ℕ
-minute y mo d h mi = minuteOf (record { year = y; month = mo; day = d; hour = h; minute = mi })
+minute y mo d h mi = minuteOf (record { year = y; month = mo; day = d; hour = h; minute = mi; second = 0 })
 
 -- a sheet holds a local minute, and it becomes this instant
 abbrev pub isInstant : List Form → ℕ → ℕ → Bool
@@ -143,6 +143,24 @@ caseYearDays =
     sheetHeld fs (minute 2007 7 10 9 0)
     && (eqb (heldDays fs 365 (minute 2003 1 1 9 0)) 2 && not (sheetHeld fs (minute 2008 6 10 9 0)))
 
+-- T-02: "four or six digits may follow the `T`", "wherever a sheet line has a time": every line kind with seconds here and there, and without any
+unfoldable pub withSeconds : List Form
+withSeconds =
+    sheet
+    "Z +0100\nT 20260329T010000 +0200\nT 20261025T0100 +0100\nR 20260131T060000 FREQ=MONTHLY;UNTIL=20260731T0600\nR 20260201T0600 UNTIL=20260203T060000;FREQ=DAILY\nD 20260101T060000\nD 20260102T0600\nX 20260331T060000\n"
+
+unfoldable pub withoutSeconds : List Form
+withoutSeconds =
+    sheet
+    "Z +0100\nT 20260329T0100 +0200\nT 20261025T0100 +0100\nR 20260131T0600 FREQ=MONTHLY;UNTIL=20260731T0600\nR 20260201T0600 UNTIL=20260203T0600;FREQ=DAILY\nD 20260101T0600\nD 20260102T0600\nX 20260331T0600\n"
+
+-- 31 January, May and July, three days of February, two of January
+unfoldable pub caseSeconds : Bool
+unfolding withSeconds
+caseSeconds =
+    sheetHeld withSeconds (minute 2026 2 3 6 0)
+    && (isInstant withSeconds (minute 2026 5 31 6 0) 13891920 && eqb (heldDays withSeconds 365 (minute 2026 1 1 6 0)) 8)
+
 -- "in it the lowest of 2 to 8 that applies": a line as the first of its sheet, or after the example's first two
 alone : String → ℕ
 alone line = lineRefusal first (bytes line)
@@ -172,3 +190,28 @@ caseYearRanks =
     && (eqb (later "R 20260329T0600 FREQ=YEARLY;BYDAY=-1SU") 6
     && (eqb (later "R 20260329T0600 FREQ=YEARLY;BYMONTH=3;BYSETPOS=1") 6
     && (eqb (later "R 20260329T0600 FREQ=YEARLY;BYMONTH=4") 8 && eqb (later "R 20260329T0600 FREQ=YEARLY;BYMONTH=03,4") 0)))))
+
+-- T-02: "Seconds other than 00 are refusal 5": not where the line is malformed, 3, or out of place, 4; any other number of digits is 3
+unfoldable pub caseSecondRanks : Bool
+unfolding alone later
+caseSecondRanks =
+    eqb (later "T 20260329T015901 0200") 3
+    && (eqb (alone "D 20260101T060001") 4
+    && (eqb (later "D 20260101T060001") 5
+    && (eqb (later "X 20260101T060060") 5
+    && (eqb (later "T 20260329T015999 +0200") 5
+    && (eqb (later "R 20260101T060030 FREQ=DAILY;BYDAY=FR") 5
+    && (eqb (later "R 20260101T0600 FREQ=DAILY;COUNT=2;UNTIL=20250101T000059") 5
+    && (eqb (later "R 20260101T0600 FREQ=DAILY;COUNT=2;UNTIL=20250101T000000") 6
+    && (eqb (later "T 20260329T015900 +0200") 7
+    && (eqb (later "R 20260101T060000 FREQ=DAILY;UNTIL=20250101T000000") 8
+    && eqb (later "R 20260101T060000 FREQ=DAILY;UNTIL=20260101T060000") 0)))))))))
+
+unfoldable pub caseSecondDigits : Bool
+unfolding later
+caseSecondDigits =
+    eqb (later "D 20260101T060") 3
+    && (eqb (later "D 20260101T0600") 0
+    && (eqb (later "D 20260101T06000") 3
+    && (eqb (later "D 20260101T060000") 0
+    && (eqb (later "D 20260101T0600000") 3 && (eqb (later "D 20260101T06000000") 3 && eqb (later "D 20260101T060000Z") 3)))))

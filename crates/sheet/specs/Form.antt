@@ -1,5 +1,5 @@
 -- "The sheet": the written form of each line, whatever its numbers.
-use mathlib.Core.Bool.{Bool, true, false, cond, _&&_}
+use mathlib.Core.Bool.{Bool, true, false, cond, _&&_, _||_}
 use mathlib.Core.List.{List, [], _∷_}
 use mathlib.Core.Option.{Option, none, some}
 use Prim.Native.Nat.{ℕ, _-_}
@@ -9,24 +9,33 @@ use Rattle.calendar.specs.Below.{allOf}
 use Rattle.lines.specs.Bytes.{bytes, byte}
 use Rattle.sheet.specs.Words.{sameBytes, wordIn, isDigit, decimal, numberOf, Signed, signedOf, pieces, eachOf}
 
--- "A *time* is `YYYYMMDDTHHMM`."
+-- "A *time* is `YYYYMMDDTHHMM`", T-02: or "`YYYYMMDDTHHMMSS`"
 pub record Time : Type 0 where
   pub year : ℕ
   pub month : ℕ
   pub day : ℕ
   pub hour : ℕ
   pub minute : ℕ
+  pub second : ℕ
 
+-- T-02: "four or six digits may follow the `T`"
+unfoldable pub clockDigits : ℕ → Bool
+clockDigits n = eqb n 4 || eqb n 6
+
+-- where no seconds are written they are 0
 unfoldable pub timeOf : List ℕ → Option Time
 timeOf s =
-    cond (eqb (length s) 13 && (allOf isDigit (take 8 s) && (eqb (getD s 8 0) (byte "T") && allOf isDigit (drop 9 s))))
+    cond
+    (allOf isDigit (take 8 s)
+    && (eqb (getD s 8 0) (byte "T") && (clockDigits (length (drop 9 s)) && allOf isDigit (drop 9 s))))
     (some
     (record {
       year = decimal 0 (take 4 s);
       month = decimal 0 (take 2 (drop 4 s));
       day = decimal 0 (take 2 (drop 6 s));
       hour = decimal 0 (take 2 (drop 9 s));
-      minute = decimal 0 (drop 11 s);
+      minute = decimal 0 (take 2 (drop 11 s));
+      second = decimal 0 (drop 13 s);
     }))
     none
 

@@ -1,7 +1,7 @@
 -- The ranges of a line's numbers and dates, and what times and offsets are as numbers.
 use mathlib.Core.Bool.{Bool, true, cond, _&&_}
 use Prim.Native.Nat.{ℕ, _+_, _-_, _*_}
-use lib.Dec.{leb}
+use lib.Dec.{leb, eqb}
 use Rattle.calendar.specs.Below.{within, allOf}
 use Rattle.calendar.specs.Calendar.{leapYear, monthLength, dayOf}
 use Rattle.calendar.specs.Window.{dayMinutes, windowFirst}
@@ -9,11 +9,11 @@ use Rattle.zone.specs.Zone.{bias}
 use Rattle.sheet.specs.Form.{Time, Shift, Element, one, range, Field, star, list, Entry, plain, ordinal, Part, freq, interval, count, until, byDay, byMonthDay, bySetPos, byMonth, Form, zone, change, cron, rule, extra, except}
 use Rattle.sheet.specs.Words.{Signed}
 
--- "year 2000 to 2099", and a date and a time of day that exist
+-- "year 2000 to 2099", and a date and a time of day that exist; T-02: "Seconds other than 00 are refusal 5."
 unfoldable pub timeInRange : Time → Bool
 timeInRange t =
     within 2000 2099 (t .year)
-    && (within 1 (monthLength (leapYear (t .year)) (t .month)) (t .day) && (leb (t .hour) 23 && leb (t .minute) 59))
+    && (within 1 (monthLength (leapYear (t .year)) (t .month)) (t .day) && (leb (t .hour) 23 && (leb (t .minute) 59 && eqb (t .second) 0)))
 
 -- "Local minutes count from 2000-01-01 00:00"
 unfoldable pub minuteOf : Time → ℕ

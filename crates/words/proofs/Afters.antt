@@ -5,7 +5,7 @@ use mathlib.Core.Option.{Option, none, some}
 use mathlib.Core.Path.{_≡_, refl, ap, subst}
 use Prim.Native.Nat.{ℕ, zero, suc, _+_, _<_, _≤_}
 use native.Mathlib.Omega.{arith}
-use lib.Dec.{eqb}
+use lib.Dec.{ltb, eqb}
 use lib.ListN.{length, getD, drop}
 use Rattle.calendar.proofs.Every.{within-range}
 use Rattle.calendar.specs.Below.{within}
@@ -13,7 +13,7 @@ use Rattle.sheet.specs.Form.{Time}
 use Rattle.sheet.specs.Words.{Signed}
 use Rattle.words.specs.Answers.{madeRead, numberRead, signedRead, timeAs, timeRead, oneAt}
 use Rattle.words.specs.Lists.{before, listAt}
-use Rattle.words.specs.Reads.{startsWith, cursor, digitsIn, numberAt, signAt, withSign, signedAt, timeAt}
+use Rattle.words.specs.Reads.{startsWith, cursor, digitsIn, numberAt, signAt, withSign, signedAt, timeBytes, timeAt}
 use Rattle.words.specs.declared.cursor.Number.{Number}
 use Rattle.words.specs.declared.cursor.Sign.{Sign}
 use Rattle.words.specs.declared.cursor.Time.{Time as ReadTime}
@@ -70,10 +70,10 @@ module _ (s : List ℕ) (at : ℕ) where
 
   pub time-after : (t : Time) (e : ℕ) → timeRead (timeAt s at) ≡ some (t, e) → at ≤ e
   unfolding timeAt
-  time-after = by-test (eqb (digitsIn (drop at s)) 8 && (eqb (getD s (at + 8) 0) 84 && eqb (digitsIn (drop (at + 9) s)) 4)) _
+  time-after = by-test (ltb 0 (timeBytes s at)) _
     where
-      by-test : (b : Bool) (t : ReadTime) → Reads (λ n e. at ≤ e) (timeRead (cond b (Timed.Is t (cursor (at + 13))) Timed.Not))
-      by-test true t = read-some (λ n e. at ≤ e) (timeAs t) (at + 13) (omega arith)
+      by-test : (b : Bool) (t : ReadTime) → Reads (λ n e. at ≤ e) (timeRead (cond b (Timed.Is t (cursor (at + timeBytes s at))) Timed.Not))
+      by-test true t = read-some (λ n e. at ≤ e) (timeAs t) (at + timeBytes s at) (omega arith)
       by-test false t = read-none (λ (n : Time) (e : ℕ). at ≤ e)
 
 module _ (s : List ℕ) (at : ℕ) where

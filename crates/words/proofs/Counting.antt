@@ -1,16 +1,19 @@
 -- Digits one by one: where they end, and the number that they write.
-use mathlib.Core.Bool.{Bool, true, false, _||_}
+use mathlib.Core.Bool.{Bool, true, false, cond, _&&_, _||_}
 use mathlib.Core.List.{List, [], _∷_}
 use mathlib.Core.Path.{_≡_, refl}
 use Prim.Native.Nat.{ℕ, zero, suc, _+_, _-_, _*_, _^_, _<_, _≤_}
 use native.Mathlib.Numerals.{add-one}
 use native.Mathlib.Omega.{arith}
+use borrow.Author.Tests.{eqb-true}
 use lib.Dec.{eqb}
 use lib.ListN.{length, getD, take, drop, length-drop, drop-of-length-le, List·getD-eq-default}
 use lib.Seq.{drop-cons}
+use Rattle.calendar.proofs.Every.{both-true}
 use Rattle.zone.proofs.Good.{by-order}
+use Rattle.sheet.specs.Form.{clockDigits}
 use Rattle.sheet.specs.Words.{isDigit, decimal}
-use Rattle.words.specs.Reads.{digitsIn, decimalAt}
+use Rattle.words.specs.Reads.{digitsIn, decimalAt, timeBytes}
 
 module _ (s : List ℕ) (at : ℕ) where
   pub digits-past : length s ≤ at → digitsIn (drop at s) ≡ 0
@@ -47,6 +50,35 @@ digits-fit s at h =
 
 pub digits-at : (s : List ℕ) (at k : ℕ) → digitsIn (drop at s) ≡ suc k → at + suc k ≤ length s
 digits-at s at k e = omega (arith, digits-fit s at (omega arith), e)
+
+-- ---- a time's bytes
+pub clock-digits : (n : ℕ) → clockDigits n ≡ true → (4 ≤ n) × (n ≤ 6)
+unfolding clockDigits
+clock-digits n e = by-number (eqb n 4) (eqb n 6) refl refl e
+  where
+    by-number : (a b : Bool) → eqb n 4 ≡ a → eqb n 6 ≡ b → (a || b) ≡ true → (4 ≤ n) × (n ≤ 6)
+    by-number true b f g h = let m = eqb-true n 4 f in (omega arith, omega arith)
+    by-number false true f g h = let m = eqb-true n 6 g in (omega arith, omega arith)
+    by-number false false f g h = let z : _≡_ {A = ℕ} 0 1 = cc in absurd (omega arith)
+
+-- what a time uses lies within the line
+pub record Used (s : List ℕ) (at used : ℕ) : Type 0 where
+  pub low : 13 ≤ used
+  pub high : used ≤ 15
+  pub inside : at + used ≤ length s
+
+pub time-used : (s : List ℕ) (at used : ℕ) → used ≡ timeBytes s at → (used ≡ 0 → ⊥) → Used s at used
+unfolding timeBytes
+time-used s at used q = rw q (by-test (digitsIn (drop (at + 9) s)) refl _ refl)
+  where
+    by-test : (n : ℕ) → digitsIn (drop (at + 9) s) ≡ n → (b : Bool)
+        → (eqb (digitsIn (drop at s)) 8 && (eqb (getD s (at + 8) 0) 84 && clockDigits n)) ≡ b → (cond b (9 + n) 0 ≡ 0 → ⊥)
+        → Used s at (cond b (9 + n) 0)
+    by-test n g true e h =
+        let d = clock-digits n (both-true (eqb (getD s (at + 8) 0) 84) _ (both-true (eqb (digitsIn (drop at s)) 8) _ e .1) .1) in
+        let f = digits-fit s (at + 9) (omega (arith, d)) in
+        record { low = omega (arith, d); high = omega (arith, d); inside = omega (arith, f) }
+    by-test n g false e h = absurd (h refl)
 
 -- a byte other than 0 stands in the line
 pub byte-within : (s : List ℕ) (at b : ℕ) → 0 < b → getD s at 0 ≡ b → at < length s

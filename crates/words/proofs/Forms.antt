@@ -1,23 +1,25 @@
 -- The readers of signed numbers, times and offsets against the forms of whole pieces.
-use mathlib.Core.Bool.{Bool, true, false, cond, _&&_, _||_, and-false}
+use mathlib.Core.Bool.{Bool, true, false, cond, _&&_, _||_, and-true, and-false}
 use mathlib.Core.List.{List, [], _∷_, _++_, append-assoc}
 use mathlib.Core.Option.{Option, none, some}
 use mathlib.Core.Path.{_≡_, refl, sym, ap, _∙_}
-use Prim.Native.Nat.{ℕ, suc, _+_, _<_, _≤_}
+use Prim.Native.Nat.{ℕ, suc, _+_, _-_, _<_, _≤_}
 use native.Mathlib.Omega.{arith}
-use borrow.Author.Tests.{eq-eqb, ne-eqb, eqb-true}
-use lib.Dec.{eqb}
-use lib.ListN.{length, getD, take, drop, length-drop, length-take, drop-of-length-le, List·getD-append}
+use borrow.Author.Tests.{lt-ltb, eq-eqb, ne-eqb, eqb-true}
+use lib.Dec.{ltb, eqb}
+use lib.ListN.{length, getD, take, drop, length-drop, length-take, drop-of-length-le, List·getD-append, List·getD-eq-default}
 use lib.Seq.{split-at, drop-drop, getD-drop, drop-append-le, take-append-le, take-all}
 use Rattle.calendar.proofs.Every.{both-true}
 use Rattle.calendar.specs.Below.{allOf}
-use Rattle.sheet.specs.Form.{Shift, shiftOf, Time, timeOf}
+use Rattle.zone.proofs.Good.{by-order}
+use Rattle.sheet.specs.Form.{Shift, shiftOf, Time, clockDigits, timeOf}
 use Rattle.sheet.specs.Words.{isDigit, decimal, numberOf, Signed, signedOf}
 use Rattle.words.specs.Answers.{numberRead, signedRead, shiftRead, timeRead}
-use Rattle.words.specs.Reads.{digitsIn, decimalAt, cursor, numberAt, signAt, withSign, signedAt, shiftAt, timeAt}
+use Rattle.words.specs.Reads.{digitsIn, decimalAt, cursor, numberAt, signAt, withSign, signedAt, shiftAt, timeBytes, timeAt}
 use Rattle.words.specs.declared.cursor.Number.{Number}
 use Rattle.words.specs.declared.cursor.Shifted.{Shifted}
 use Rattle.words.specs.declared.cursor.Timed.{Timed}
+use Rattle.words.proofs.Counting.{clock-digits}
 use Rattle.words.proofs.Listing.{first-byte}
 use Rattle.words.proofs.Tied.{all-digits, some-digits, digits-inside, wholeRead, Tied, tied-by, tied-none, number-tied}
 
@@ -192,12 +194,6 @@ module _ (s : List ℕ) (at : ℕ) (tail : List ℕ) (stops : Stops tail) where
       by-plus false e = by-minus (eqb c 45) refl e
 
 -- ---- a time
-time-read : (b : Bool) (y mo d h m e : ℕ)
-    → timeRead (cond b (Timed.Is (record { year = y; month = mo; day = d; hour = h; minute = m }) (cursor e)) Timed.Not)
-    ≡ cond b (some (record { year = y; month = mo; day = d; hour = h; minute = m }, e)) none
-time-read true y mo d h m e = refl
-time-read false y mo d h m e = refl
-
 -- digits up to a byte that is none
 digits-up-to : (p tail : List ℕ) (n : ℕ) → n < length p → isDigit (getD p n 0) ≡ false
     → eqb (digitsIn (p ++ tail)) n ≡ allOf isDigit (take n p)
@@ -211,28 +207,43 @@ digits-up-to p tail n h e =
 
 -- after a time: no digit and no T
 module _ (s : List ℕ) (at : ℕ) (p tail : List ℕ) (stops : digitsIn tail ≡ 0) (no-letter : eqb (getD tail 0 0) 84 ≡ false) (here : drop at s ≡ p ++ tail) where
-  timeTest : Bool
-  timeTest = eqb (digitsIn (drop at s)) 8 && (eqb (getD s (at + 8) 0) 84 && eqb (digitsIn (drop (at + 9) s)) 4)
+  -- the digits that follow the T
+  clock : ℕ
+  clock = digitsIn (drop (at + 9) s)
 
-  test-whole : length p ≡ 13 → timeTest ≡ allOf isDigit (take 8 p) && (eqb (getD p 8 0) 84 && allOf isDigit (drop 9 p))
-  unfolding timeTest
-  test-whole l =
-      rw (
-        here,
-        part-byte s at p tail here 8 (omega arith),
-        part-drop s at p tail here 9 (omega arith),
-        exactly (drop 9 p) tail 4 stops (eq-eqb (length (drop 9 p)) 4 (omega (arith, length-drop 9 p))),
-      )
-      (by-letter (eqb (getD p 8 0) 84) refl)
-    where
-      by-letter : (b : Bool) → eqb (getD p 8 0) 84 ≡ b
-          → eqb (digitsIn (p ++ tail)) 8 && (eqb (getD p 8 0) 84 && allOf isDigit (drop 9 p)) ≡ allOf isDigit (take 8 p) && (eqb (getD p 8 0) 84 && allOf isDigit (drop 9 p))
-      by-letter true e = rw (digits-up-to p tail 8 (omega arith) (rw (eqb-true (getD p 8 0) 84 e) refl)) refl
-      by-letter false e = simp (e, and-false)
+  timeTest : Bool
+  timeTest = eqb (digitsIn (drop at s)) 8 && (eqb (getD s (at + 8) 0) 84 && clockDigits clock)
+
+  formTest : Bool
+  formTest = allOf isDigit (take 8 p) && (eqb (getD p 8 0) 84 && (clockDigits (length (drop 9 p)) && allOf isDigit (drop 9 p)))
+
+  form-none : formTest ≡ false → timeOf p ≡ none
+  unfolding timeOf formTest
+  form-none e = rw e refl
+
+  -- the digits are the piece's last bytes, or another byte comes after them
+  module _ (nine : 9 ≤ length p) where
+    clock-all : allOf isDigit (drop 9 p) ≡ true → clock ≡ length (drop 9 p)
+    unfolding clock
+    clock-all a = ap digitsIn (part-drop s at p tail here 9 nine) ∙ all-digits (drop 9 p) tail a stops
+
+    clock-some : allOf isDigit (drop 9 p) ≡ false → clock < length (drop 9 p)
+    unfolding clock
+    clock-some a = rw (part-drop s at p tail here 9 nine) (some-digits (drop 9 p) tail a)
+
+    test-whole : allOf isDigit (drop 9 p) ≡ true → timeTest ≡ formTest
+    unfolding timeTest formTest
+    test-whole a =
+        rw (here, part-byte s at p tail here 8 (omega arith), clock-all a, a) (by-letter (eqb (getD p 8 0) 84) refl)
+      where
+        by-letter : (b : Bool) → eqb (getD p 8 0) 84 ≡ b
+            → eqb (digitsIn (p ++ tail)) 8 && (eqb (getD p 8 0) 84 && clockDigits (length (drop 9 p))) ≡ allOf isDigit (take 8 p) && (eqb (getD p 8 0) 84 && (clockDigits (length (drop 9 p)) && true))
+        by-letter true e = rw (digits-up-to p tail 8 (omega arith) (rw (eqb-true (getD p 8 0) 84 e) refl), and-true) refl
+        by-letter false e = simp (e, and-false)
 
   -- all of it lies in the piece
-  test-inside : timeTest ≡ true → 13 ≤ length p
-  unfolding timeTest
+  test-inside : timeTest ≡ true → 9 + clock ≤ length p
+  unfolding timeTest clock
   test-inside b =
       let x = both-true (eqb (digitsIn (drop at s)) 8) _ b in
       let y = both-true (eqb (getD s (at + 8) 0) 84) _ (x .1) in
@@ -240,7 +251,7 @@ module _ (s : List ℕ) (at : ℕ) (p tail : List ℕ) (stops : digitsIn tail �
       let n : length p ≡ 8 → ⊥ = letter (y .0) in
       let d : digitsIn (drop (at + 9) s) ≤ length (drop 9 p) =
       digits-inside s (at + 9) (drop 9 p) tail (part-drop s at p tail here 9 (omega arith)) stops in
-      omega (arith, d, length-drop 9 p, eqb-true (digitsIn (drop (at + 9) s)) 4 (y .1))
+      omega (arith, d, length-drop 9 p)
     where
       letter : eqb (getD s (at + 8) 0) 84 ≡ true → length p ≡ 8 → ⊥
       letter e l =
@@ -256,39 +267,73 @@ module _ (s : List ℕ) (at : ℕ) (p tail : List ℕ) (stops : digitsIn tail �
 
   timeThere : Time
   timeThere =
-      record
-      { year = decimalAt s at 4; month = decimalAt s (at + 4) 2; day = decimalAt s (at + 6) 2; hour = decimalAt s (at + 9) 2; minute = decimalAt s (at + 11) 2 }
+      record {
+        year = decimalAt s at 4;
+        month = decimalAt s (at + 4) 2;
+        day = decimalAt s (at + 6) 2;
+        hour = decimalAt s (at + 9) 2;
+        minute = decimalAt s (at + 11) 2;
+        second = decimalAt s (at + 13) (9 + clock - 13);
+      }
 
-  time-digits : Tied (timeOf p) (cond timeTest (some (timeThere, at + 13)) none) at (at + length p)
-  unfolding timeOf timeThere
-  time-digits =
-      tied-by (timeOf p) timeThere (at + 13) at (at + length p) (omega arith) timeTest
-      (λ b. omega (arith, test-inside b))
-      (λ b e.
-      let l : length p ≡ 13 = omega arith in
+  time-there : timeTest ≡ true → length p ≡ 9 + clock → allOf isDigit (drop 9 p) ≡ true → timeOf p ≡ some timeThere
+  unfolding timeOf timeThere timeTest formTest
+  time-there b l a =
+      let n = clock-digits clock (both-true (eqb (getD s (at + 8) 0) 84) _ (both-true (eqb (digitsIn (drop at s)) 8) _ b .1) .1) in
       let y : decimalAt s at 4 ≡ decimal 0 (take 4 p) =
-      ap (λ (n : ℕ). decimalAt s n 4) {x = at} {y = at + 0} (omega arith) ∙ part-decimal s at p tail here 0 4 (omega arith) in
-      let m : decimalAt s (at + 11) 2 ≡ decimal 0 (drop 11 p) =
-      part-decimal s at p tail here 11 2 (omega arith) ∙ ap (decimal 0) (take-all 2 (drop 11 p) (omega (arith, length-drop 11 p))) in
+      ap (λ (n : ℕ). decimalAt s n 4) {x = at} {y = at + 0} (omega arith) ∙ part-decimal s at p tail here 0 4 (omega (arith, n)) in
+      let x : decimalAt s (at + 13) (9 + clock - 13) ≡ decimal 0 (drop 13 p) =
+      part-decimal s at p tail here 13 (9 + clock - 13) (omega (arith, n))
+      ∙ ap (decimal 0) (take-all (9 + clock - 13) (drop 13 p) (omega (arith, length-drop 13 p))) in
       rw (
-        eq-eqb (length p) 13 l,
-        sym (test-whole l) ∙ b,
+        sym (test-whole (omega arith) a) ∙ b,
         y,
-        part-decimal s at p tail here 4 2 (omega arith),
-        part-decimal s at p tail here 6 2 (omega arith),
-        part-decimal s at p tail here 9 2 (omega arith),
-        m,
-      ) refl)
-      (λ b e. let l : length p ≡ 13 → ⊥ = λ q. e (omega arith) in rw (ne-eqb (length p) 13 l) refl)
-      (λ b. by-length (eqb (length p) 13) refl b)
+        part-decimal s at p tail here 4 2 (omega (arith, n)),
+        part-decimal s at p tail here 6 2 (omega (arith, n)),
+        part-decimal s at p tail here 9 2 (omega (arith, n)),
+        part-decimal s at p tail here 11 2 (omega (arith, n)),
+        x,
+      ) refl
+
+  time-digits : Tied (timeOf p) (cond timeTest (some (timeThere, at + (9 + clock))) none) at (at + length p)
+  unfolding formTest
+  time-digits =
+      tied-by (timeOf p) timeThere (at + (9 + clock)) at (at + length p) (omega arith) timeTest
+      (λ b. omega (arith, test-inside b))
+      (λ b e. by-digits (allOf isDigit (drop 9 p)) refl (λ a. time-there b (omega arith) a) (λ a. absurd (omega (arith, clock-some (omega arith) a, length-drop 9 p))))
+      (λ b e.
+      by-digits (allOf isDigit (drop 9 p)) refl (λ a. absurd (e (omega (arith, clock-all (omega (arith, test-inside b)) a, length-drop 9 p, test-inside b)))) not-all)
+      (λ b.
+      by-digits (allOf isDigit (drop 9 p)) refl (λ a. by-order (length p) 9 (λ l. too-short l) (λ l. form-none (sym (test-whole l a) ∙ b))) not-all)
     where
-      by-length : (c : Bool) → eqb (length p) 13 ≡ c → timeTest ≡ false → timeOf p ≡ none
-      by-length true e b = rw (e, sym (test-whole (eqb-true (length p) 13 e)) ∙ b) refl
-      by-length false e b = rw e refl
+      by-digits : {A : Type 0} (c : Bool) → allOf isDigit (drop 9 p) ≡ c → (allOf isDigit (drop 9 p) ≡ true → A) → (allOf isDigit (drop 9 p) ≡ false → A) → A
+      by-digits true e f g = f e
+      by-digits false e f g = g e
+
+      not-all : allOf isDigit (drop 9 p) ≡ false → timeOf p ≡ none
+      not-all a = form-none (simp (a, and-false))
+
+      too-short : length p < 9 → timeOf p ≡ none
+      too-short l = form-none (simp (List·getD-eq-default p 0 {n = 8} (omega arith), and-false))
 
   pub time-tied : Tied (timeOf p) (timeRead (timeAt s at)) at (at + length p)
-  unfolding timeAt timeTest timeThere
-  time-tied =
-      rw
-      (time-read timeTest (decimalAt s at 4) (decimalAt s (at + 4) 2) (decimalAt s (at + 6) 2) (decimalAt s (at + 9) 2) (decimalAt s (at + 11) 2) (at + 13))
-      time-digits
+  unfolding timeAt timeBytes timeTest timeThere clock
+  time-tied = rw (there timeTest) time-digits
+    where
+      there : (b : Bool)
+          → timeRead
+          (cond (ltb 0 (cond b (9 + clock) 0))
+          (Timed.Is
+          (record {
+            year = decimalAt s at 4;
+            month = decimalAt s (at + 4) 2;
+            day = decimalAt s (at + 6) 2;
+            hour = decimalAt s (at + 9) 2;
+            minute = decimalAt s (at + 11) 2;
+            second = decimalAt s (at + 13) (cond b (9 + clock) 0 - 13);
+          })
+          (cursor (at + cond b (9 + clock) 0)))
+          Timed.Not)
+          ≡ cond b (some (timeThere, at + (9 + clock))) none
+      there true = rw (lt-ltb 0 (9 + clock) (omega arith)) refl
+      there false = refl

@@ -3,7 +3,7 @@ use mathlib.Core.Bool.{Bool, true, false, cond, _&&_, and-false}
 use mathlib.Core.Path.{_≡_, refl, ap, _∙_}
 use Prim.Native.Nat.{ℕ, _+_, _-_, _*_, _<_, _≤_}
 use native.Mathlib.Omega.{arith}
-use borrow.Author.Tests.{le-leb, lt-leb}
+use borrow.Author.Tests.{le-leb, lt-leb, eq-eqb, ne-eqb}
 use lib.Dec.{leb}
 use Rattle.calendar.proofs.Every.{within-range}
 use Rattle.calendar.specs.Below.{within}
@@ -32,7 +32,11 @@ module _ (t : Time) where
   unfolding timeInRange
   minute-outside h = simp (lt-leb (t .minute) 59 h, and-false)
 
-  module _ (y : within 2000 2099 (t .year) ≡ true) (h : t .hour ≤ 23) (n : t .minute ≤ 59) where
+  pub second-outside : 0 < t .second → minuteAs t ≡ Minute.Outside
+  unfolding timeInRange
+  second-outside h = simp (ne-eqb (t .second) 0 (λ e. omega arith), and-false)
+
+  module _ (y : within 2000 2099 (t .year) ≡ true) (h : t .hour ≤ 23) (n : t .minute ≤ 59) (z : t .second ≡ 0) where
     date : Bool
     date = within 1 (monthLength (leapYear (t .year)) (t .month)) (t .day)
 
@@ -43,7 +47,7 @@ module _ (t : Time) where
         → (minuteAs t ≡ cond b (Minute.Is (minuteOf t)) Minute.Outside) × (dayOfDate (t .year) (t .month) (t .day) ≡ cond b (Day.Is (dayOf (t .year) (t .month) (t .day))) Day.Outside)
     unfolding timeInRange date dayOfDate validDate
     by-date true e =
-        (rw (y, e, le-leb (t .hour) 23 h, le-leb (t .minute) 59 n) refl, rw (le-leb 1 (t .year) (omega (arith, years)), le-leb (t .year) 9999 (omega (arith, years)), e) refl)
+        (rw (y, e, le-leb (t .hour) 23 h, le-leb (t .minute) 59 n, eq-eqb (t .second) 0 z) refl, rw (le-leb 1 (t .year) (omega (arith, years)), le-leb (t .year) 9999 (omega (arith, years)), e) refl)
     by-date false e =
         (rw (y, e) refl, rw (le-leb 1 (t .year) (omega (arith, years)), le-leb (t .year) 9999 (omega (arith, years)), e) refl)
 

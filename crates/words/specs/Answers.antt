@@ -37,7 +37,7 @@ shiftRead (Shifted.Is s c) = some (shiftAs s, c .at)
 shiftRead Shifted.Not = none
 
 abbrev pub timeAs : ReadTime → Time
-timeAs t = record { year = t .year; month = t .month; day = t .day; hour = t .hour; minute = t .minute }
+timeAs t = record { year = t .year; month = t .month; day = t .day; hour = t .hour; minute = t .minute; second = t .second }
 
 abbrev pub timeRead : Timed → Option (Time × ℕ)
 timeRead (Timed.Is t c) = some (timeAs t, c .at)

@@ -1,11 +1,12 @@
 -- What stands in a line at a place, and the place after it. Each reader takes as much as it can.
 use mathlib.Core.Bool.{Bool, true, false, cond, _&&_, _||_}
 use mathlib.Core.List.{List, [], _∷_}
-use Prim.Native.Nat.{ℕ, suc, _+_}
-use lib.Dec.{eqb}
+use Prim.Native.Nat.{ℕ, suc, _+_, _-_}
+use lib.Dec.{ltb, eqb}
 use lib.ListN.{length, getD, take, drop}
 use Rattle.calendar.specs.Below.{within}
 use Rattle.lines.specs.Bytes.{byte}
+use Rattle.sheet.specs.Form.{clockDigits}
 use Rattle.sheet.specs.Words.{isDigit, decimal}
 use Rattle.words.specs.declared.cursor.Cursor.{Cursor}
 use Rattle.words.specs.declared.cursor.Number.{Number}
@@ -46,10 +47,17 @@ withSign minus Number.Not = Signed.Not
 unfoldable pub signedAt : List ℕ → ℕ → Signed
 signedAt s at = withSign (signAt s at .minus) (numberAt s (signAt s at .next .at))
 
--- "A *time* is `YYYYMMDDTHHMM`."
+-- how many bytes the time that stands there uses, 13 or 15; 0 where there is none
+unfoldable pub timeBytes : List ℕ → ℕ → ℕ
+timeBytes s at =
+    let n = digitsIn (drop (at + 9) s) in
+    cond (eqb (digitsIn (drop at s)) 8 && (eqb (getD s (at + 8) 0) (byte "T") && clockDigits n)) (9 + n) 0
+
+-- "A *time* is `YYYYMMDDTHHMM`", T-02: or "`YYYYMMDDTHHMMSS`"
 unfoldable pub timeAt : List ℕ → ℕ → Timed
 timeAt s at =
-    cond (eqb (digitsIn (drop at s)) 8 && (eqb (getD s (at + 8) 0) (byte "T") && eqb (digitsIn (drop (at + 9) s)) 4))
+    let used = timeBytes s at in
+    cond (ltb 0 used)
     (Timed.Is
     (record {
       year = decimalAt s at 4;
@@ -57,8 +65,9 @@ timeAt s at =
       day = decimalAt s (at + 6) 2;
       hour = decimalAt s (at + 9) 2;
       minute = decimalAt s (at + 11) 2;
+      second = decimalAt s (at + 13) (used - 13);
     })
-    (cursor (at + 13)))
+    (cursor (at + used)))
     Timed.Not
 
 -- "An *offset* is a sign and `HHMM`."

@@ -2,7 +2,7 @@
 ghost use mathlib.Core.Bool.{_||_};
 ghost use mathlib.Core.Path.{_≡_};
 ghost use lib.ListN.{getD};
-ghost use Rattle.words.specs.Reads.{numberAt, signAt, signedAt, timeAt, shiftAt, wordAt};
+ghost use Rattle.words.specs.Reads.{numberAt, signAt, signedAt, timeBytes, timeAt, shiftAt, wordAt};
 use crate::digits::decimal;
 use crate::digits::digits_in;
 
@@ -40,13 +40,14 @@ pub enum Signed {
     Not,
 }
 
-// `YYYYMMDDTHHMM`, whatever its numbers.
+// `YYYYMMDDTHHMM` or `YYYYMMDDTHHMMSS`, whatever its numbers; seconds that are not written are 0.
 pub struct Time {
     pub year: u64,
     pub month: u64,
     pub day: u64,
     pub hour: u64,
     pub minute: u64,
+    pub second: u64,
 }
 
 pub enum Timed {
@@ -135,20 +136,31 @@ impl Cursor {
         Signed::Is(sign.minus, n, after)
     }
 
+    // How many bytes the time that stands there uses, 13 or 15; 0 where there is none.
+    fn time_bytes(self, s: &[u8]) -> usize
+        ensures { λ r. ⌜ r ≡ timeBytes (now (s .entry)) (self .at) ⌝ }
+    {
+        let at = self.at;
+        if digits_in(s, at) != 8 {
+            return 0;
+        }
+        let letter = Cursor { at: at + 8 };
+        if letter.byte(s) != LETTER_T {
+            return 0;
+        }
+        let n = digits_in(s, at + 9);
+        if !either(n == 4, n == 6) {
+            return 0;
+        }
+        9 + n
+    }
+
     pub fn time(self, s: &[u8]) -> Timed
         ensures { λ r. ⌜ r ≡ timeAt (now (s .entry)) (self .at) ⌝ }
     {
         let at = self.at;
-        if digits_in(s, at) != 8 {
-            return Timed::Not;
-        }
-        if s.len() - at < 13 {
-            return Timed::Not;
-        }
-        if s[at + 8] != LETTER_T {
-            return Timed::Not;
-        }
-        if digits_in(s, at + 9) != 4 {
+        let used = self.time_bytes(s);
+        if used == 0 {
             return Timed::Not;
         }
         let time = Time {
@@ -157,8 +169,9 @@ impl Cursor {
             day: decimal(s, at + 6, 2),
             hour: decimal(s, at + 9, 2),
             minute: decimal(s, at + 11, 2),
+            second: decimal(s, at + 13, used - 13),
         };
-        Timed::Is(time, Cursor { at: at + 13 })
+        Timed::Is(time, Cursor { at: at + used })
     }
 
     pub fn shift(self, s: &[u8]) -> Shifted

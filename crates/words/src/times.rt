@@ -42,6 +42,9 @@ pub fn local_minute(t: Time) -> Minute
     if LAST_MINUTE < t.minute {
         return Minute::Outside;
     }
+    if 0 < t.second {
+        return Minute::Outside;
+    }
     let Day::Is(day) = day_of_date(t.year, t.month, t.day) else {
         return Minute::Outside;
     };
