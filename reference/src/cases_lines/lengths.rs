@@ -14,7 +14,7 @@ const LENGTHS: [usize; 17] = [
 type Long = (&'static str, &'static [&'static str], &'static str);
 
 /// Taken up to 256 bytes.
-const LISTS: [Long; 16] = [
+const LISTS: [Long; 19] = [
     ("C 1", &[",1", ",01"], " * * * *"),
     ("C 7 1-2", &[",1", ",01", ",13-17"], " * * *"),
     ("C * * 3", &[",3", ",31", ",1-31"], " 1 1"),
@@ -62,6 +62,21 @@ const LISTS: [Long; 16] = [
         ";UNTIL=20270101T0000",
     ),
     (
+        "R 20260131T0600 FREQ=DAILY;INTERVAL=2;BYMONTHDAY=31",
+        &[",1", ",31", ",-31"],
+        ";UNTIL=20270101T000000",
+    ),
+    (
+        "R 20260131T060000 FREQ=MONTHLY;BYMONTHDAY=31",
+        &[",1", ",31", ",-31"],
+        ";UNTIL=20260131T0600",
+    ),
+    (
+        "R 20260131T060000 BYMONTH=1",
+        &[",1", ",12"],
+        ";FREQ=YEARLY;UNTIL=20991231T235900",
+    ),
+    (
         "R 20260131T0600 FREQ=YEARLY;BYMONTH=1",
         &[",1", ",01", ",12", ",0008"],
         "",
@@ -74,13 +89,14 @@ const LISTS: [Long; 16] = [
 ];
 
 /// Refused whatever their length: not of a listed form, a number out of range, a part twice, a start that is no occurrence.
-const REFUSED: [Long; 18] = [
+const REFUSED: [Long; 22] = [
     ("Z +0100", &["0"], ""),
     ("Z +0100", &[" "], ""),
     ("Z ", &[" "], "+0100"),
     ("T 20260329T0100 +0200", &["0"], ""),
     ("T 20260329T0100", &[" "], " +0200"),
     ("D 20260329T0100", &["0"], ""),
+    ("D 20260329T010000", &["0"], ""),
     ("D 2026", &["0"], "0329T0100"),
     ("X 20260329T0100", &[" "], ""),
     ("C ", &["*", " "], "* * * *"),
@@ -94,6 +110,21 @@ const REFUSED: [Long; 18] = [
         "R 20260131T0600 FREQ=YEARLY;BYMONTH=1",
         &[",1", ",12"],
         ",13",
+    ),
+    (
+        "R 20260131T0600 FREQ=YEARLY;BYMONTH=1",
+        &[",1", ",12"],
+        ";UNTIL=20270101T000001",
+    ),
+    (
+        "R 20260131T0600 FREQ=YEARLY;BYMONTH=1",
+        &[",1", ",12"],
+        ";UNTIL=20270101T00000",
+    ),
+    (
+        "R 20260131T0600 FREQ=YEARLY;BYMONTH=1",
+        &[",1", ",12"],
+        ";UNTIL=20260131T055900",
     ),
     ("R 20260131T0600 FREQ=DAILY;BYMONTH=2", &[",2", ",12"], ""),
     (

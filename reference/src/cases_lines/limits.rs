@@ -47,7 +47,7 @@ const TIMES: [&str; 25] = [
 ];
 
 /// The places where a time stands.
-const PLACES_OF_A_TIME: [&str; 11] = [
+const PLACES_OF_A_TIME: [&str; 12] = [
     "T {} +0200",
     "D {}",
     "X {}",
@@ -59,6 +59,7 @@ const PLACES_OF_A_TIME: [&str; 11] = [
     "R 20000101T0000 FREQ=DAILY;UNTIL={}",
     "R 20000101T0000 UNTIL={};FREQ=MONTHLY",
     "R {} UNTIL=20500101T0000;FREQ=WEEKLY",
+    "R {} FREQ=DAILY;UNTIL={}",
 ];
 
 pub fn all() -> Vec<Case> {
@@ -66,6 +67,8 @@ pub fn all() -> Vec<Case> {
         dates(),
         clocks(),
         times(),
+        seconds(),
+        digits_of_clocks(),
         offsets(),
         changes(),
         distances(),
@@ -115,14 +118,43 @@ fn clocks() -> Vec<Case> {
     all
 }
 
-/// Times at the limits in every place where a time stands.
-fn times() -> Vec<Case> {
+/// The time in every place where one stands.
+fn in_every_place(time: &str) -> Vec<Case> {
     let mut all = Vec::new();
-    for time in TIMES {
-        for place in PLACES_OF_A_TIME {
-            let line = place.replace("{}", time);
-            all.push(Case::new(contexts::zone(60), line.clone()));
-            all.push(Case::new(contexts::after(1, 0, 60), line));
+    for place in PLACES_OF_A_TIME {
+        let line = place.replace("{}", time);
+        all.push(Case::new(contexts::zone(60), line.clone()));
+        all.push(Case::new(contexts::after(1, 0, 60), line));
+    }
+    all
+}
+
+/// Times at the limits, without seconds and with some.
+fn times() -> Vec<Case> {
+    let seconds = ["", "00", "01", "60"];
+    let all = TIMES.into_iter().flat_map(|time| seconds.map(|s| format!("{time}{s}")));
+    all.flat_map(|time| in_every_place(&time)).collect()
+}
+
+/// Every second, and what lies beside them; also of a minute, an hour and a day that end with it.
+fn seconds() -> Vec<Case> {
+    let mut all = Vec::new();
+    for second in 0..=99 {
+        all.extend(in_every_place(&format!("20260131T0600{second:02}")));
+        all.push(after_lines(format!("D 20260131T2359{second:02}")));
+        all.push(after_lines(format!("X 20991231T2359{second:02}")));
+    }
+    all
+}
+
+/// None to twelve digits after the `T`: zeros, ones, and such as are a time of day where the last are left out.
+fn digits_of_clocks() -> Vec<Case> {
+    let mut all = Vec::new();
+    for length in 0..=12 {
+        for digits in ["000000000000", "111111111111", "060000000000", "235900123456"] {
+            let time = format!("20260131T{}", &digits[..length]);
+            all.extend(in_every_place(&time));
+            all.extend(["Z", " ", ".", ";"].map(|after| after_lines(format!("D {time}{after}"))));
         }
     }
     all

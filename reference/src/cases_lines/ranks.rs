@@ -103,7 +103,7 @@ fn ways_of(tag: char, number: u64) -> usize {
 }
 
 /// What only a line of this kind can have at its end.
-const OWN_FORMS: [(char, &str); 34] = [
+const OWN_FORMS: [(char, &str); 37] = [
     ('Z', "0"),
     ('Z', " +0100"),
     ('T', "0"),
@@ -124,6 +124,7 @@ const OWN_FORMS: [(char, &str); 34] = [
     ('R', ";FREQ=HOURLY"),
     ('R', ";UNTIL=20270101"),
     ('R', ";UNTIL=20270101T0000Z"),
+    ('R', ";UNTIL=20270101T00000"),
     ('R', ";BYDAY="),
     ('R', ";BYDAY=+MO"),
     ('R', ";BYMONTHDAY=1,,2"),
@@ -133,14 +134,16 @@ const OWN_FORMS: [(char, &str); 34] = [
     ('R', ";BYMONTH=1,,2"),
     ('R', ";BYMONTH=00001"),
     ('D', "Z"),
-    ('D', "00"),
+    ('D', "0"),
+    ('D', "000"),
     ('D', " 20260105T0600"),
     ('X', "Z"),
-    ('X', "00"),
+    ('X', "0"),
+    ('X', "000"),
     ('X', " 20260105T0600"),
 ];
 
-const BAD_TIMES: [&str; 8] = [
+const BAD_TIMES: [&str; 10] = [
     "20260105T2400",
     "20260105T0660",
     "20260132T0600",
@@ -149,6 +152,8 @@ const BAD_TIMES: [&str; 8] = [
     "20261305T0600",
     "19991231T0600",
     "21000101T0600",
+    "20260105T060001",
+    "20260105T060060",
 ];
 
 const BAD_OFFSETS: [&str; 4] = ["+1401", "-1201", "-0000", "+0160"];
@@ -167,12 +172,13 @@ const BAD_FIELDS: [&str; 10] = [
 ];
 
 /// Numbers out of range, in a part that the rule has or as one more.
-const RULE_NUMBERS: [(&str, &str); 15] = [
+const RULE_NUMBERS: [(&str, &str); 16] = [
     ("INTERVAL", "0"),
     ("INTERVAL", "1000"),
     ("COUNT", "0"),
     ("UNTIL", "20270230T0000"),
     ("UNTIL", "21000101T0000"),
+    ("UNTIL", "20270101T000030"),
     ("BYDAY", "6MO"),
     ("BYDAY", "-0MO"),
     ("BYDAY", "MO,9999TU"),

@@ -4,7 +4,9 @@ use super::damage::damaged;
 use super::rules::mixed;
 use super::{contexts, rooms, Case};
 use crate::answer_lines::Context;
-use crate::generate::{cron_line, edge_lines, large_set_rule_line, offset_text, rule_line};
+use crate::generate::{
+    cron_line, edge_lines, large_set_rule_line, offset_text, rule_line, with_seconds,
+};
 use crate::local::{written, LAST_MINUTE};
 use crate::random::Random;
 use crate::zone::LEAST_DISTANCE;
@@ -29,7 +31,7 @@ const AS_GENERATED: [fn(&mut Random) -> String; 8] = [
 /// No word, words that a line is made of, and numbers at both sides of limits.
 const WORDS: &str = " * 0 1 5 6 7 12 13 23 24 31 32 59 60 999 1000 9999 10000 -0 +0 -1 +1 -5 -6 +31 -31 -32 0-0 1-31 \
     31-1 SU MO 6MO -5FR 0SA +TU mo DAILY WEEKLY MONTHLY YEARLY HOURLY FREQ COUNT UNTIL BYDAY BYMONTHDAY BYSETPOS BYMONTH \
-    20000101T0000 20991231T2359 21000101T0000 +1400";
+    20000101T0000 20991231T2359 21000101T0000 20260105T060000 20260105T06000 20260105T060001 +1400";
 
 /// A line of each kind in any place, each damaged.
 pub fn round(random: &mut Random) -> Vec<Case> {
@@ -49,10 +51,12 @@ pub fn round(random: &mut Random) -> Vec<Case> {
     ];
     let mut all = transition(random);
     for line in lines {
+        let line = with_seconds(&line, random);
         all.extend(about(&line, random));
     }
     for some_line in AS_GENERATED {
-        let case = Case::new(somewhere(random), few(some_line, random));
+        let line = few(some_line, random);
+        let case = Case::new(somewhere(random), with_seconds(&line, random));
         all.push(rooms::any(&case, random));
         all.push(case);
     }
@@ -142,6 +146,7 @@ fn transition(random: &mut Random) -> Vec<Case> {
     };
     let change = change * (2 * random.between(0, 1) - 1);
     let line = format!("T {} {}", written(next), offset_text(offset + change));
+    let line = with_seconds(&line, random);
     let context = contexts::after(contexts::any_changes(random), instant, offset);
     let mut all = about(&line, random);
     all.push(Case::new(context, line.clone()));

@@ -6,22 +6,27 @@ pub const ZONES: [&str; 7] = [
 ];
 
 /// They may stand after an offset of +0100.
-pub const TRANSITIONS: [&str; 6] = [
+pub const TRANSITIONS: [&str; 8] = [
     "T 20260329T0100 +0200",
     "T 20000103T0000 +0000",
     "T 20991231T2359 -0200",
     "T 20280229T2300 +0400",
     "T 20261025T0100 +0101",
     "T 20451130T1259 +0059",
+    "T 20260329T010000 +0200",
+    "T 20991231T235900 -0200",
 ];
 
-pub const TIMES: [&str; 6] = [
+pub const TIMES: [&str; 9] = [
     "D 20260329T0230",
     "D 20000101T0000",
     "D 20280229T2359",
     "X 20260329T0330",
     "X 20991231T2359",
     "X 20471009T1010",
+    "D 20260329T023000",
+    "D 20000101T000000",
+    "X 20991231T235900",
 ];
 
 pub const CRONS: [&str; 13] = [
@@ -41,7 +46,7 @@ pub const CRONS: [&str; 13] = [
 ];
 
 /// Their starts are occurrences; most of them on Saturday, 31 January 2026, the fifth and last one of its month.
-pub const RULES: [&str; 48] = [
+pub const RULES: [&str; 53] = [
     "R 20260131T0600 FREQ=DAILY",
     "R 20260131T0600 FREQ=WEEKLY",
     "R 20260131T0600 FREQ=MONTHLY",
@@ -90,6 +95,11 @@ pub const RULES: [&str; 48] = [
     "R 20260131T0600 FREQ=WEEKLY;BYMONTH=1;BYDAY=SU,SA",
     "R 20260131T0600 FREQ=MONTHLY;BYMONTH=1,7;BYDAY=SA;BYSETPOS=-1",
     "R 20991231T2359 FREQ=YEARLY;BYMONTH=12;COUNT=1",
+    "R 20260131T060000 FREQ=DAILY",
+    "R 20260131T060000 UNTIL=20260131T0600;FREQ=WEEKLY",
+    "R 20260131T0600 UNTIL=20260131T060000;FREQ=WEEKLY",
+    "R 20260131T0600 FREQ=MONTHLY;UNTIL=20991231T235900",
+    "R 20260131T060000 FREQ=YEARLY;UNTIL=20270131T060000",
 ];
 
 pub fn lines() -> Vec<String> {

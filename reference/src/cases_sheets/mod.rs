@@ -11,7 +11,7 @@ use crate::cases_lines::damage::{at_every_byte, damaged};
 use crate::cases_plans::{
     sheets_at_the_ends, sheets_of_positions, sheets_of_years, some_sheet, EVERY_KIND, SORTS,
 };
-use crate::generate::{bad_sheet, edge_lines, refused_sheet, sheet_of_lines};
+use crate::generate::{bad_sheet, edge_lines, refused_sheet, sheet_of_lines, with_seconds};
 use crate::random::Random;
 
 /// Rounds for `--times 1`.
@@ -31,15 +31,15 @@ T 20261025T0100 +0100
 C 30 2 * * *
 ";
 
-/// A line of every kind. It is damaged at every byte.
+/// A line of every kind, with both forms of a time. It is damaged at every byte.
 const SMALL: &str = "\
 Z +0100
-T 20260329T0100 +0200
+T 20260329T010000 +0200
 C 30 2 * * 1-5
 R 20260131T0600 FREQ=MONTHLY;BYDAY=SA,-1SU;COUNT=3
-R 20260131T0600 FREQ=YEARLY;BYMONTH=1,12
+R 20260131T060000 UNTIL=20991231T235900;FREQ=YEARLY;BYMONTH=1,12
 D 20260329T0230
-X 20260329T0330
+X 20260329T033000
 ";
 
 /// Lines after which an edge line stands.
@@ -92,7 +92,9 @@ pub struct Round {
 pub fn sheets_of_round(number: u64, random: &mut Random) -> Round {
     let lines = 1 + number % MOST_LINES;
     let some = some_sheet(number % SORTS, random);
+    let some = with_seconds(&some, random);
     let mixed = sheet_of_lines(lines as usize, random);
+    let mixed = with_seconds(&mixed, random);
     let damages = (0..DAMAGES).map(|_| damaged(mixed.as_bytes(), random));
     let mut compiled: Vec<Vec<u8>> = damages.collect();
     for refusal in REFUSED_BY {

@@ -3,7 +3,7 @@
 use crate::random::Random;
 
 /// Refusal 3: lines that are of no listed form.
-const MALFORMED: [&str; 62] = [
+const MALFORMED: [&str; 67] = [
     "",
     " ",
     "Z",
@@ -27,6 +27,9 @@ const MALFORMED: [&str; 62] = [
     "D 20260105",
     "D 20260105T060",
     "D 20260105T06000",
+    "D 20260105T0600000",
+    "D 20260105T060000Z",
+    "X 20260105T06:00:00",
     "D 2026015T00600",
     "D 20260105t0600",
     "D 20260105 0600",
@@ -66,10 +69,12 @@ const MALFORMED: [&str; 62] = [
     "R 20260105T0600 FREQ=DAILY ",
     "R 20260105T0600 FREQ=DAILY COUNT=2",
     "R 20260105 FREQ=DAILY",
+    "R 20260105T06000 FREQ=DAILY",
+    "T 20260105T06000 +0100",
 ];
 
 /// Refusal 3: rule parts that are of no listed form.
-const MALFORMED_PARTS: [&str; 66] = [
+const MALFORMED_PARTS: [&str; 67] = [
     "FREQ=DAILY;",
     ";FREQ=DAILY",
     "FREQ=DAILY;;COUNT=2",
@@ -98,7 +103,8 @@ const MALFORMED_PARTS: [&str; 66] = [
     "FREQ=DAILY;COUNT=x",
     "FREQ=DAILY;UNTIL=20260105",
     "FREQ=DAILY;UNTIL=20260105T0600Z",
-    "FREQ=DAILY;UNTIL=20260105T060000",
+    "FREQ=DAILY;UNTIL=20260105T06000",
+    "FREQ=DAILY;UNTIL=20260105T0600000",
     "FREQ=DAILY;UNTIL=",
     "FREQ=WEEKLY;BYDAY=",
     "FREQ=WEEKLY;BYDAY=M",
@@ -139,7 +145,7 @@ const MALFORMED_PARTS: [&str; 66] = [
 ];
 
 /// Refusal 5, and numbers and dates that are just in range.
-const EDGES: [&str; 58] = [
+const EDGES: [&str; 67] = [
     "Z -0000",
     "Z +1400",
     "Z +1401",
@@ -198,10 +204,19 @@ const EDGES: [&str; 58] = [
     "C 0005-0006,59 * * * *",
     "R 20260105T2400 FREQ=DAILY",
     "R 20260132T0600 FREQ=DAILY",
+    "T 20260105T060000 +0100",
+    "T 20260105T060001 +0100",
+    "D 20260105T060000",
+    "D 20260105T060001",
+    "D 20260105T235959",
+    "X 20260105T060060",
+    "X 20260105T060099",
+    "R 20260105T060000 FREQ=DAILY",
+    "R 20260105T060030 FREQ=DAILY",
 ];
 
 /// The same of rule parts.
-const EDGE_PARTS: [&str; 48] = [
+const EDGE_PARTS: [&str; 51] = [
     "FREQ=DAILY;INTERVAL=0",
     "FREQ=DAILY;INTERVAL=0001",
     "FREQ=DAILY;INTERVAL=999",
@@ -215,6 +230,9 @@ const EDGE_PARTS: [&str; 48] = [
     "FREQ=DAILY;UNTIL=21000101T0000",
     "FREQ=DAILY;UNTIL=20260230T0000",
     "FREQ=DAILY;UNTIL=20260105T2400",
+    "FREQ=DAILY;UNTIL=20260105T060000",
+    "FREQ=DAILY;UNTIL=20260105T060001",
+    "FREQ=DAILY;UNTIL=20260105T060060",
     "FREQ=MONTHLY;BYDAY=0MO",
     "FREQ=MONTHLY;BYDAY=-0MO",
     "FREQ=MONTHLY;BYDAY=+0000MO",

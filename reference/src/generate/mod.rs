@@ -7,6 +7,7 @@ mod bad_sheet;
 mod cron;
 mod edge_sheets;
 mod rule;
+mod seconds;
 mod years;
 mod zones;
 
@@ -19,6 +20,7 @@ pub use bad_sheet::{bad_sheet, refused_sheet};
 pub use cron::cron_line;
 pub use edge_sheets::{empty_sheet, ends_sheet, full_sheet, midnight_sheet, sheet_of_lines};
 pub use rule::{all_positions, all_positions_of_years, large_set_rule_line, rule_line};
+pub use seconds::with_seconds;
 pub use years::{lines_of_years, started};
 pub use zones::{offset_text, zone_lines};
 

@@ -24,13 +24,14 @@ pub enum Part<Time> {
     ByMonth(Vec<i64>),
 }
 
-/// "A *time* is `YYYYMMDDTHHMM`".
+/// "A *time* is `YYYYMMDDTHHMM`"; T-02: or `YYYYMMDDTHHMMSS`.
 pub struct TimeDigits {
     pub year: i64,
     pub month: i64,
     pub day: i64,
     pub hour: i64,
     pub minute: i64,
+    pub second: i64,
 }
 
 /// "An *offset* is a sign and `HHMM`".
@@ -86,17 +87,21 @@ fn signed_number(text: &str) -> Option<i64> {
     number(text.strip_prefix('+').unwrap_or(text))
 }
 
+/// "four or six digits may follow the `T`".
 fn time(text: &str) -> Option<TimeDigits> {
     let (date, clock) = text.split_once('T')?;
-    if date.len() != 8 || clock.len() != 4 {
-        return None;
-    }
+    let second = match (date.len(), clock.len()) {
+        (8, 4) => 0,
+        (8, 6) => digits(&clock[4..], 2)?,
+        _ => return None,
+    };
     Some(TimeDigits {
         year: digits(&date[..4], 4)?,
         month: digits(&date[4..6], 2)?,
         day: digits(&date[6..], 2)?,
         hour: digits(&clock[..2], 2)?,
-        minute: digits(&clock[2..], 2)?,
+        minute: digits(&clock[2..4], 2)?,
+        second,
     })
 }
 

@@ -35,15 +35,16 @@ pub fn read(line: Written) -> Option<InRange> {
     })
 }
 
-/// "year 2000 to 2099", and a date and a time of day that exist.
+/// "year 2000 to 2099", and a date and a time of day that exist; T-02: "Seconds other than 00 are refusal 5."
 fn time(digits: &TimeDigits) -> Option<i64> {
-    minute_of(
+    let minute = minute_of(
         digits.year,
         digits.month,
         digits.day,
         digits.hour,
         digits.minute,
-    )
+    );
+    minute.filter(|_| digits.second == 0)
 }
 
 /// "minutes at most 59, from -720 minutes to +840 minutes in all; `-0000` is out of range".
