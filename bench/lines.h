@@ -58,17 +58,18 @@ static const struct line_case {
      "R of 256 bytes, 55 weekdays with an ordinal", LINES, 0, 0, 0, 0,
      "0403000100D0AE0803228D1F0000000000000000005000000000000000000000000000000000000000", 11500},
     {"Z +0100", NULL, START, 0, 0, 0, 0, "01003C", 620},
-    {"T 20260329T0100 +0200", NULL, ZONED, 0, 0, 1500, 0, "0200D2963C0078", 1200},
-    /* T-02: a time takes at most 60 more than the 830 and 1005 of before, with seconds or without */
-    {"D 20260101T0600", NULL, LINES, 0, 0, 0, 0, "0500D0AE08", 890},
-    {"D 20260101T060000", NULL, LINES, 0, 0, 0, 0, "0500D0AE08", 890},
-    {"T 20260329T010000 +0200", NULL, ZONED, 0, 0, 1500, 0, "0200D2963C0078", 1065},
+    /* a time, with seconds or without, takes at most 60 more than before T-02: a T took 1035, a D 861 */
+    {"T 20260329T0100 +0200", NULL, ZONED, 0, 0, 1500, 0, "0200D2963C0078", 1095},
+    {"T 20260329T010000 +0200", NULL, ZONED, 0, 0, 1500, 0, "0200D2963C0078", 1095},
+    {"D 20260101T0600", NULL, LINES, 0, 0, 0, 0, "0500D0AE08", 921},
+    {"D 20260101T060000", NULL, LINES, 0, 0, 0, 0, "0500D0AE08", 921},
     {"X 20260101T0600", NULL, LINES, 0, 0, 0, 0, "0600D0AE08", 950},
     /* the refusals: a byte, the form, the place, a range, the parts together, the limits of a transition, the start */
     {"C 30 2 * * \x7f", NULL, LINES, 0, 0, 0, 2, "", 160},
     {"C 30 2 * *", NULL, LINES, 0, 0, 0, 3, "", 600},
     {"Z +0100", NULL, LINES, 0, 0, 0, 4, "", 230},
     {"C 60 2 * * *", NULL, LINES, 0, 0, 0, 5, "", 650},
+    {"D 20260101T060001", NULL, LINES, 0, 0, 0, 5, "", 430},
     {"R 20260101T0600 FREQ=DAILY;BYSETPOS=-1", NULL, LINES, 0, 0, 0, 6, "", 950},
     {"T 20260329T0100 +0200", NULL, ZONED, 1, 0, 1560, 7, "", 720},
     {"R 20260130T0600 FREQ=MONTHLY;BYDAY=MO;BYSETPOS=-1", NULL, LINES, 0, 0, 0, 8, "", 2050},

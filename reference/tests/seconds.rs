@@ -64,7 +64,9 @@ fn digits() {
             let clock = &"060000000"[..length];
             assert_eq!(after_zone(place, clock).0, 3, "{place} {clock}");
         }
-        for clock in ["0600Z", "060000Z", "06000O", "06:00:00", "0600.00", "0600+00"] {
+        for clock in [
+            "0600Z", "060000Z", "06000O", "06:00:00", "0600.00", "0600+00",
+        ] {
             assert_eq!(after_zone(place, clock).0, 3, "{place} {clock}");
         }
     }

@@ -132,7 +132,9 @@ fn in_every_place(time: &str) -> Vec<Case> {
 /// Times at the limits, without seconds and with some.
 fn times() -> Vec<Case> {
     let seconds = ["", "00", "01", "60"];
-    let all = TIMES.into_iter().flat_map(|time| seconds.map(|s| format!("{time}{s}")));
+    let all = TIMES
+        .into_iter()
+        .flat_map(|time| seconds.map(|s| format!("{time}{s}")));
     all.flat_map(|time| in_every_place(&time)).collect()
 }
 
@@ -151,7 +153,12 @@ fn seconds() -> Vec<Case> {
 fn digits_of_clocks() -> Vec<Case> {
     let mut all = Vec::new();
     for length in 0..=12 {
-        for digits in ["000000000000", "111111111111", "060000000000", "235900123456"] {
+        for digits in [
+            "000000000000",
+            "111111111111",
+            "060000000000",
+            "235900123456",
+        ] {
             let time = format!("20260131T{}", &digits[..length]);
             all.extend(in_every_place(&time));
             all.extend(["Z", " ", ".", ";"].map(|after| after_lines(format!("D {time}{after}"))));
