@@ -12,7 +12,7 @@ use std::io::{self, Write};
 use crate::entries::{compile, Loaded};
 use crate::generate::{
     bad_plan, bad_sheet, crowded_sheet, edge_lines, lines_of_years, plans_at_the_edges,
-    refused_sheet, sheet, short_sheet,
+    refused_sheet, sheet, short_sheet, with_seconds,
 };
 use crate::hex::word_of;
 use crate::meaning::{of_sheet, Meaning};
@@ -83,8 +83,8 @@ fn some_sheet(sort: u64, random: &mut Random) -> Vec<u8> {
     loop {
         let text = match sort {
             0 => crowded_sheet(random).into_bytes(),
-            1..=4 => sheet(random).into_bytes(),
-            _ if sort < TAKEN_SORTS => short_sheet(random).into_bytes(),
+            1..=4 => with_seconds(&sheet(random), random).into_bytes(),
+            _ if sort < TAKEN_SORTS => with_seconds(&short_sheet(random), random).into_bytes(),
             _ if sort < REFUSED_SORTS => refused_sheet(sort - TAKEN_SORTS + 1, random),
             _ => bad_sheet(sort - REFUSED_SORTS + 1, random),
         };
