@@ -116,14 +116,6 @@ in-year-unique n {p} {q} a b =
     let e : p .year ≡ q .year = trichotomy (p .year) (q .year) l g in
     same e (omega (arith, a .whole, b .whole, ap yearStart e))
 
--- a day of the range that is past year y has a year after it
-pub not-last : (y r n : ℕ) → 1 ≤ y → y ≤ 9999 → yearStart y + r ≡ n → n < 3652059 → yearLength y ≤ r → y + 1 ≤ 9999
-not-last y r n h t w l g =
-    dite (decLt y 9999) (λ (s : y < 9999). omega arith)
-    (λ (s : y < 9999 → ⊥).
-    let e : y + 1 ≡ 10000 = omega arith in
-    absurd (omega (arith, year-start-next y h, ap yearStart e, year-start-end)))
-
 -- where the walk through the years ends
 walked : (k y r n : ℕ) → 1 ≤ y → y + k ≡ 9999 → yearStart y + r ≡ n → n < 3652059 → InYear n (yearFrom k y r)
 unfolding yearFrom

@@ -5,6 +5,11 @@ ghost use Prim.Native.Nat.{_≤_, _<_};
 ghost use Rattle.signed.specs.Bias.{allDays};
 ghost use Rattle.calendar.specs.Calendar.{leapYear, yearLength, yearStart, monthStart, monthLength, yearDay, monthDay, weekdayOf};
 
+// The days of four centuries, the last of which has a day more than the others.
+const FOUR_CENTURIES: u64 = 146097;
+// The days of four years, the last of which is leap.
+const FOUR_YEARS: u64 = 1461;
+
 // A year, and the days of it before a day.
 pub struct YearDay {
     pub year: u64,
@@ -68,20 +73,19 @@ pub(crate) fn start(year: u64) -> u64
     365 * years + years / 4 - years / 100 + years / 400
 }
 
-// The year of a day of the range: the years are counted one at a time.
+// The year of a day of the range, by groups of 400, 100 and 4 years. After k centuries, or k years of a century, k quarters of the four's
+// days have passed, rounded down: no more than n, where k times the four's days are at most 4 n + 3.
 pub(crate) fn year_day(n: u64) -> YearDay
     requires { ⌜ n < allDays ⌝ }
     ensures { λ r. ⌜ r ≡ yearDay n ⌝ }
 {
-    let mut year = 1;
-    let mut rest = n;
-    let mut days = length(year);
-    while days <= rest {
-        rest = rest - days;
-        year = year + 1;
-        days = length(year);
+    let centuries = (4 * n + 3) / FOUR_CENTURIES;
+    let rest = n - FOUR_CENTURIES * centuries / 4;
+    let years = (4 * rest + 3) / FOUR_YEARS;
+    YearDay {
+        year: 100 * centuries + years + 1,
+        day: rest - FOUR_YEARS * years / 4,
     }
-    YearDay { year, day: rest }
 }
 
 // The month of a day of a year: a month has at most 31 days and the twelve together at most 366, so it is the 32-day month that the
