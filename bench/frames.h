@@ -43,7 +43,7 @@ static const struct bench_case {
     uint64_t most;           /* instructions allowed, 0 for no limit */
 } bench_cases[CASES] = {
     /* no February has a 30th */
-    {"0 0 30 2 *, which holds nothing", {{3, 1, 1, 1u << 30, 1u << 2, 127, 1}}, 0,
+    {"0 0 30 2 *, which holds nothing", {{3, 1, 1, 1u << 30, 1u << 2, 127, 5}}, 0,
      {0, 0, 0, 0}, {0, 0, 0, 0}, {0, 0, 0, 0}, 60000},
     /* 06:00 on 9 January is past */
     {"daily from 2026-01-01 06:00", {{4, 1, 1, 13676040, 52595999}}, 20000000,
@@ -64,7 +64,7 @@ static const struct bench_case {
     {"monthly, last workday", {{4, 3, 1, 13717440, 52595999, 62, 0, 0, 0, 0, 0, 2}}, 20000000,
      {2038, 1, 29, 0}, {2026, 1, 30, 0}, {2099, 12, 31, 0}, 0},
     /* the next leap year, the window's first and its last */
-    {"0 0 29 2 *", {{3, 1, 1, 1u << 29, 1u << 2, 127, 1}}, 13675680,
+    {"0 0 29 2 *", {{3, 1, 1, 1u << 29, 1u << 2, 127, 5}}, 13675680,
      {2028, 2, 29, 0}, {2000, 2, 29, 0}, {2096, 2, 29, 0}, 0},
     /* a Friday, before the 13th: the day after the Thursday; 2000 begins on a Saturday */
     {"0 0 13 * 5", {{3, 1, 1, 1u << 13, 8190, 32, 3}}, 13675680,

@@ -76,10 +76,10 @@ static void add_part(char *rule, const char *name, const char *field) {
     }
 }
 
-static void put_cron_event(char fields[5][64], const char *frequency, const char *days, const char *weekdays) {
+static void put_cron_event(char fields[5][64], const char *frequency, const char *months, const char *days, const char *weekdays) {
     char rule[500];
     sprintf(rule, "FREQ=%s;UNTIL=20991231T235900", frequency);
-    add_part(rule, "BYMONTH", fields[3]);
+    add_part(rule, "BYMONTH", months);
     add_part(rule, "BYMONTHDAY", days);
     add_part(rule, "BYDAY", weekdays);
     add_part(rule, "BYHOUR", fields[1]);
@@ -87,18 +87,18 @@ static void put_cron_event(char fields[5][64], const char *frequency, const char
     put_event("20000101T0000", rule);
 }
 
-/* The frequency that lets libical step furthest. Two restricted day fields are two events, since either suffices. */
+/* The frequency that lets libical step furthest. Month and day of month are one event and the day of week another, since either suffices. */
 static void put_cron(const char *line) {
     char fields[5][64];
     if (sscanf(line, "%63s %63s %63s %63s %63s", fields[0], fields[1], fields[2], fields[3], fields[4]) != 5) {
         exit(2);
     }
-    int by_day = strcmp(fields[2], "*") != 0, by_weekday = strcmp(fields[4], "*") != 0;
-    if (by_day) {
-        put_cron_event(fields, strcmp(fields[3], "*") != 0 ? "YEARLY" : "MONTHLY", fields[2], "*");
+    int by_day = strcmp(fields[2], "*") != 0, by_month = strcmp(fields[3], "*") != 0, by_weekday = strcmp(fields[4], "*") != 0;
+    if (by_day || by_month) {
+        put_cron_event(fields, !by_day ? "DAILY" : by_month ? "YEARLY" : "MONTHLY", fields[3], fields[2], "*");
     }
-    if (by_weekday || !by_day) {
-        put_cron_event(fields, by_weekday ? "WEEKLY" : "DAILY", "*", fields[4]);
+    if (by_weekday || !(by_day || by_month)) {
+        put_cron_event(fields, by_weekday ? "WEEKLY" : "DAILY", "*", "*", fields[4]);
     }
 }
 

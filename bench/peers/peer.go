@@ -60,7 +60,7 @@ func read(name string) sheet {
 			must(err)
 			at, offsets = append(at, t.Unix()), append(offsets, seconds(second))
 		case "C":
-			s.crons = append(s.crons, rest)
+			s.crons = append(s.crons, schedules(rest)...)
 		case "R":
 			s.rules = append(s.rules, [2]string{first, withSeconds(second)})
 		case "D":
@@ -79,6 +79,15 @@ func seconds(offset string) int32 {
 	minutes, err := strconv.Atoi(offset[:1] + offset[3:])
 	must(err)
 	return int32(hours*3600 + minutes*60)
+}
+
+// The package lets the month restrict the day of week too, so a line that has both is two schedules.
+func schedules(line string) []string {
+	f := strings.Fields(line)
+	if f[3] == "*" || f[4] == "*" {
+		return []string{line}
+	}
+	return []string{strings.Join([]string{f[0], f[1], f[2], f[3], "*"}, " "), strings.Join([]string{f[0], f[1], "*", "*", f[4]}, " ")}
 }
 
 // The package reads times with seconds.

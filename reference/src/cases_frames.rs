@@ -2,10 +2,10 @@
 
 use crate::entries::compile;
 use crate::generate::{
-    all_positions, all_positions_of_years, cron_line, large_set_rule_line, lines_of_years,
-    rule_line, sheet, started,
+    all_cron_lines, all_positions, all_positions_of_years, cron_line, eight_cron_lines,
+    large_set_rule_line, lines_of_years, rule_line, sheet, started, TWO_YEARS,
 };
-use crate::local::{LAST_MINUTE, MINUTES_OF_A_DAY};
+use crate::local::{minute_of, LAST_MINUTE, MINUTES_OF_A_DAY};
 use crate::random::Random;
 
 /// Rounds for `--times 1`: a rule and a cron line over the whole century, and a sheet from two places.
@@ -19,7 +19,7 @@ const SOME: i64 = 300;
 const MOST_COUNT: i64 = 9_999;
 
 /// Lines that hold a minute at an end of the window, or would if it were not excepted or past *last*.
-const AT_THE_ENDS: [&str; 26] = [
+const AT_THE_ENDS: [&str; 28] = [
     "D 20000101T0000\nD 20991231T2359",
     "D 20000101T0001\nD 20991231T2358",
     "D 20000101T0000\nD 20991231T2359\nX 20000101T0000\nX 20991231T2359",
@@ -28,6 +28,8 @@ const AT_THE_ENDS: [&str; 26] = [
     "C 0 0 1 1 *",
     "C 59 23 31 12 *",
     "C 0,59 0,23 * * 4,6",
+    "C 0,59 0,23 * 6 4,6",
+    "C 0,59 0,23 1 6 4,6",
     "R 20000101T0000 FREQ=DAILY",
     "R 20000101T2359 FREQ=DAILY",
     "R 20000101T0000 FREQ=DAILY;UNTIL=20000101T0000",
@@ -66,6 +68,8 @@ pub fn requests(seed: u64, times: u64) -> Box<dyn Iterator<Item = String>> {
     fixed.extend(positions.iter().flat_map(|line| whole(line)));
     fixed.extend(lines_of_years().iter().flat_map(|line| whole(line)));
     fixed.extend(MANY_DAYS.into_iter().flat_map(counts));
+    fixed.extend(eight_cron_lines().iter().flat_map(|line| century(line)));
+    fixed.extend(all_cron_lines().iter().flat_map(|line| two_years(line)));
     let mut random = Random::new(seed);
     let rounds = times.saturating_mul(ROUNDS);
     let rounds = (0..rounds).flat_map(move |_| round(&mut random));
@@ -91,6 +95,25 @@ fn whole(line: &str) -> Vec<String> {
     vec![
         format!("rising 0 {MANY}{rule}"),
         format!("falling {LAST_MINUTE} {SOME}{rule}"),
+    ]
+}
+
+/// All minutes of a cron line of midnight, rising and falling.
+fn century(line: &str) -> [String; 2] {
+    let cron = frames_of(&format!("Z +0000\n{line}\n"));
+    [
+        format!("rising 0 {MANY}{cron}"),
+        format!("falling {LAST_MINUTE} {MANY}{cron}"),
+    ]
+}
+
+/// As many minutes of such a line as 2027 and 2028 have days, from either end of these years.
+fn two_years(line: &str) -> [String; 2] {
+    let cron = frames_of(&format!("Z +0000\n{line}\n"));
+    let minute = |year, month, day| minute_of(year, month, day, 0, 0).unwrap_or_default();
+    [
+        format!("rising {} {TWO_YEARS}{cron}", minute(2027, 1, 1)),
+        format!("falling {} {TWO_YEARS}{cron}", minute(2028, 12, 31)),
     ]
 }
 

@@ -3,16 +3,16 @@
 use crate::cases_zones::plans_of_zones;
 use crate::entries::compile;
 use crate::generate::{
-    all_positions, all_positions_of_years, bad_plan, crowded_sheet, damaged, damaged_everywhere,
-    empty_sheet, ends_sheet, full_sheet, large_set_sheet, lines_of_years, midnight_sheet,
-    near_a_transition, offset_text, plans_at_the_edges, plans_at_the_zone_limits, sheet,
-    with_month_masks, with_short_rules,
+    all_cron_lines, all_positions, all_positions_of_years, bad_plan, crowded_sheet, damaged,
+    damaged_everywhere, eight_cron_lines, empty_sheet, ends_sheet, full_sheet, large_set_sheet,
+    lines_of_years, midnight_sheet, near_a_transition, offset_text, plans_at_the_edges,
+    plans_at_the_zone_limits, sheet, with_flags, with_month_masks, with_short_rules, TWO_YEARS,
 };
 use crate::hex::word_of;
-use crate::local::{FIRST_MINUTE, LAST_MINUTE, MINUTES_OF_A_DAY};
+use crate::local::{minute_of, FIRST_MINUTE, LAST_MINUTE, MINUTES_OF_A_DAY};
 use crate::plan::{self, frame::Frame, Plan};
 use crate::random::Random;
-use crate::searches::{any_instant, Search, Searches};
+use crate::searches::{any_instant, Search, Searches, NEXT, PREVIOUS};
 use crate::zone::{Zone, OFFSETS};
 
 type Requests = Box<dyn Iterator<Item = String>>;
@@ -25,6 +25,9 @@ const BAD_SORTS: u64 = 8;
 
 /// Rules of years that stand together.
 const RULES_OF_A_SHEET: usize = 4;
+
+/// Spring and autumn of document 01's example.
+const ZONE: &str = "Z +0100\nT 20260329T0100 +0200\nT 20261025T0100 +0100\n";
 
 /// Document 01's whole example.
 const EXAMPLE: &str = "\
@@ -100,6 +103,7 @@ fn about_fixed_plans(random: &mut Random) -> Vec<String> {
         sheets_at_the_ends(),
         sheets_of_positions(),
         sheets_of_years(),
+        sheets_of_crons(),
     ]
     .concat();
     for sheet in sheets {
@@ -110,6 +114,13 @@ fn about_fixed_plans(random: &mut Random) -> Vec<String> {
         for text in with_month_masks(&plan) {
             fixed.extend(about_few(&text, random));
         }
+    }
+    for sheet in sheets_of_eight() {
+        let word = word_of(plan_of(&sheet).as_bytes());
+        fixed.extend(two_years().map(|(name, from)| format!("{name} {word} {from} {TWO_YEARS}")));
+    }
+    for text in with_flags(&plan_of("Z +0100\nC 30 2 * * *\nC 0 0 * * *\n")) {
+        fixed.extend(about_few(&text, random));
     }
     let every_kind = plan_of(EVERY_KIND);
     fixed.extend(about(every_kind.as_bytes(), random));
@@ -259,11 +270,32 @@ pub fn sheets_of_positions() -> Vec<String> {
 
 /// Rules of years and of months, some to a sheet.
 pub fn sheets_of_years() -> Vec<String> {
-    let zone = "Z +0100\nT 20260329T0100 +0200\nT 20261025T0100 +0100\n";
     let lines = lines_of_years();
     let some = lines.chunks(RULES_OF_A_SHEET);
-    some.map(|rules| format!("{zone}{}\n", rules.join("\n")))
+    some.map(|rules| format!("{ZONE}{}\n", rules.join("\n")))
         .collect()
+}
+
+/// A cron line each, with every set of restricted fields.
+pub fn sheets_of_crons() -> Vec<String> {
+    alone(all_cron_lines())
+}
+
+/// One of each of the eight sets.
+pub fn sheets_of_eight() -> Vec<String> {
+    alone(eight_cron_lines())
+}
+
+fn alone(lines: Vec<String>) -> Vec<String> {
+    let sheets = lines.iter().map(|line| format!("{ZONE}{line}\n"));
+    sheets.collect()
+}
+
+/// The name of a search and the instant before 2027, or after 2028, of which it asks as many answers as these years have
+/// days.
+pub fn two_years() -> [(&'static str, i64); 2] {
+    let from = |year, month, day| minute_of(year, month, day, 12, 0).unwrap_or_default();
+    [(NEXT, from(2026, 12, 31)), (PREVIOUS, from(2028, 12, 31))]
 }
 
 fn line_of_zone_or_extra(place: i64) -> String {

@@ -52,13 +52,14 @@ fn mask(numbers: impl Iterator<Item = i64>) -> i64 {
 }
 
 /// "minute mask 8, hour mask 4, day mask 4, month mask 2, weekday mask 1, flags 1 (bit 0 day of month
-/// restricted, bit 1 day of week restricted)".
+/// restricted, bit 1 day of week restricted)"; "Flag bit 2 [..] says that the month is restricted".
 fn cron_frame(cron: &Cron) -> Vec<u8> {
     let [minutes, hours, days, months, weekdays] = CRON_FIELDS;
     let matching = |field: &Field, range: std::ops::RangeInclusive<i64>| {
         mask(range.filter(|&number| field.matches(number)))
     };
-    let restricted = [&cron.day_of_month, &cron.day_of_week].map(Field::is_restricted);
+    let flagged = [&cron.day_of_month, &cron.day_of_week, &cron.month];
+    let restricted = flagged.map(Field::is_restricted);
     let flags = (0..).zip(restricted).filter(|(_, set)| *set);
     kind_and(
         0x03,

@@ -4,10 +4,10 @@ use std::io::{self, Write};
 
 use crate::dates::{date_of_day, iso_of_day, weekday, FIRST_DAY, LAST_DAY};
 use crate::generate::{
-    all_positions, all_positions_of_years, cron_line, large_set_rule_line, lines_of_years,
-    near_a_transition, rule_line, zone_lines,
+    all_cron_lines, all_positions, all_positions_of_years, cron_line, large_set_rule_line,
+    lines_of_years, near_a_transition, rule_line, zone_lines, TWO_YEARS,
 };
-use crate::local::{written, FIRST_MINUTE, LAST_MINUTE};
+use crate::local::{minute_of, written, FIRST_MINUTE, LAST_MINUTE};
 use crate::meaning::{of_sheet, Meaning};
 use crate::random::Random;
 use crate::sheet;
@@ -49,24 +49,30 @@ pub fn rules(seed: u64, times: u64, out: &mut impl Write) -> io::Result<()> {
     let mut random = Random::new(seed);
     let fixed = [all_positions(), all_positions_of_years(), lines_of_years()].concat();
     for line in fixed {
-        show(&line, FIRST_MINUTE, out)?;
+        show(&line, FIRST_MINUTE, SHOWN, out)?;
     }
     for number in 0..times.saturating_mul(LINES) {
         let line = match number % 5 {
             0 => large_set_rule_line(&mut random),
             _ => rule_line(&mut random),
         };
-        show(&line, FIRST_MINUTE, out)?;
+        show(&line, FIRST_MINUTE, SHOWN, out)?;
     }
     Ok(())
 }
 
-/// A line for each random C line: its text, a random time, and the held times from there on.
+/// A line for each C line that is written down, from 2027 on, and for each random one: its text, a random time, and the
+/// held times from there on.
 pub fn cron(seed: u64, times: u64, out: &mut impl Write) -> io::Result<()> {
     let mut random = Random::new(seed);
+    let first = minute_of(2027, 1, 1, 0, 0).unwrap_or_default();
+    for line in all_cron_lines() {
+        show(&line, first, TWO_YEARS, out)?;
+    }
     for _ in 0..times.saturating_mul(LINES) {
         let line = cron_line(&mut random);
-        show(&line, random.between(FIRST_MINUTE, LAST_MINUTE), out)?;
+        let from = random.between(FIRST_MINUTE, LAST_MINUTE);
+        show(&line, from, SHOWN, out)?;
     }
     Ok(())
 }
@@ -98,11 +104,11 @@ fn meaning_of(text: &str) -> io::Result<Meaning> {
         .map_err(|refusal| failed(format!("{text}: {refusal:?}")))
 }
 
-/// `LINE|FROM|whole or cut|TIMES`: the held times of a sheet with this one line.
-fn show(line: &str, from: i64, out: &mut impl Write) -> io::Result<()> {
+/// `LINE|FROM|whole or cut|TIMES`: the held times of a sheet with this one line, at most so many.
+fn show(line: &str, from: i64, most: usize, out: &mut impl Write) -> io::Result<()> {
     let meaning = meaning_of(&format!("Z +0000\n{line}"))?;
     let mut held = meaning.minutes.rising_from(from);
-    let shown: Vec<String> = held.by_ref().take(SHOWN).map(written).collect();
+    let shown: Vec<String> = held.by_ref().take(most).map(written).collect();
     let rest = if held.next().is_some() {
         "cut"
     } else {

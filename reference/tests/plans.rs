@@ -202,25 +202,34 @@ fn cron_masks() {
         (17, "0000"),
         (19, "00"),
     ] {
-        assert!(!taken(&with(&with(CRON, 20, "03"), byte, zero)));
+        assert!(!taken(&with(&with(CRON, 20, "07"), byte, zero)));
     }
-    assert!(!taken(&with(CRON, 17, "1FFF")) && !taken(&with(CRON, 17, "3FFE")));
-    assert!(taken(&with(CRON, 17, "0002")) && taken(&with(CRON, 17, "1000")));
+    let restricted = with(CRON, 20, "04");
+    assert!(!taken(&with(&restricted, 17, "1FFF")) && !taken(&with(&restricted, 17, "3FFE")));
+    assert!(taken(&with(&restricted, 17, "0002")) && taken(&with(&restricted, 17, "1000")));
 }
 
 /// "a flag not set only with a full mask, other flag bits 0".
 #[test]
 fn cron_flags() {
-    for flags in ["00", "01", "02", "03"] {
+    for flags in ["00", "01", "02", "03", "04", "05", "06", "07"] {
         assert!(taken(&with(CRON, 20, flags)));
     }
-    assert!(!taken(&with(CRON, 20, "04")) && !taken(&with(CRON, 20, "80")));
+    assert!(!taken(&with(CRON, 20, "08")) && !taken(&with(CRON, 20, "80")));
     let one_day = with(CRON, 13, "00000002");
     assert!(!taken(&one_day) && !taken(&with(&one_day, 20, "02")));
     assert!(taken(&with(&one_day, 20, "01")) && taken(&with(&one_day, 20, "03")));
     let sunday = with(CRON, 19, "01");
     assert!(!taken(&sunday) && !taken(&with(&sunday, 20, "01")));
     assert!(taken(&with(&sunday, 20, "02")) && taken(&with(&sunday, 20, "03")));
+    let june = with(CRON, 17, "0040");
+    for without in ["00", "01", "02", "03"] {
+        assert!(!taken(&with(&june, 20, without))); // as such a plan was before T-04
+    }
+    for flags in ["04", "05", "06", "07"] {
+        assert!(taken(&with(&june, 20, flags)));
+    }
+    assert!(!taken(&with(&june, 20, "0C")));
     assert!(!taken(&with(&with(CRON, 19, "FF"), 20, "02")));
     assert!(!taken(&with(&with(CRON, 13, "FFFFFFFF"), 20, "01")));
 }

@@ -27,8 +27,8 @@ fn the_reference_agrees() {
 #[test]
 fn the_examples_are_there() {
     assert_eq!(examples(RFC5545).len(), 33);
-    assert_eq!(examples(CRONTAB).len(), 10);
-    assert_eq!(rows_of("examples").len(), 2 * 43);
+    assert_eq!(examples(CRONTAB).len(), 14);
+    assert_eq!(rows_of("examples").len(), 2 * 47);
 }
 
 /// "moved into range": 28 years before, the RFC's own dates have the same weekdays.

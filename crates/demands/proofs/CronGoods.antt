@@ -52,15 +52,19 @@ unrestricted-full : (f : Field) (k low full : ℕ) → eqb (maskFrom (fieldHas s
 unrestricted-full star k low full e = e
 unrestricted-full (list es) k low full e = refl
 
-abbrev flagsOf : Bool → Bool → ℕ
-flagsOf a b = cond a 1 0 + cond b 2 0
+abbrev flagsOf : Bool → Bool → Bool → ℕ
+flagsOf a b c = cond a 1 0 + cond b 2 0 + cond c 4 0
 
-flags-good : (a b x y : Bool) → (a || x) ≡ true → (b || y) ≡ true
-    → (ltb (flagsOf a b) 4 && ((bit (flagsOf a b) 0 || x) && (bit (flagsOf a b) 1 || y))) ≡ true
-flags-good true true x y e f = refl
-flags-good true false x y e f = f
-flags-good false true x y e f = both e refl
-flags-good false false x y e f = both e f
+flags-good : (a b c x y z : Bool) → (a || x) ≡ true → (b || y) ≡ true → (c || z) ≡ true
+    → (ltb (flagsOf a b c) 8 && ((bit (flagsOf a b c) 0 || x) && ((bit (flagsOf a b c) 1 || y) && (bit (flagsOf a b c) 2 || z)))) ≡ true
+flags-good true true true x y z e f g = refl
+flags-good true true false x y z e f g = g
+flags-good true false true x y z e f g = both f refl
+flags-good true false false x y z e f g = both f g
+flags-good false true true x y z e f g = both e refl
+flags-good false true false x y z e f g = both e g
+flags-good false false true x y z e f g = both e (both f refl)
+flags-good false false false x y z e f g = both e (both f g)
 
 module _ (m h d mo w : Field) (inside : inRange (cron m h d mo w) ≡ true) (lists : written (cron m h d mo w) ≡ true) where
   pub cron-good : cronGood (cronFrame m h d mo w) ≡ true
@@ -80,4 +84,6 @@ module _ (m h d mo w : Field) (inside : inRange (cron m h d mo w) ≡ true) (lis
       (both (field-good 1 31 d 31 (omega arith) refl (w3 .0) (r3 .0))
       (both (field-good 1 12 mo 12 (omega arith) refl (w4 .0) (r4 .0))
       (both (field-good 0 6 w 7 (omega arith) refl (w5 .0) (r4 .1))
-      (flags-good (restricted d) (restricted w) _ _ (unrestricted-full d 31 1 (fullMask 1 31) refl) (unrestricted-full w 7 0 (fullMask 0 6) refl))))))
+      (flags-good (restricted d) (restricted w) (restricted mo) _ _ _ (unrestricted-full d 31 1 (fullMask 1 31) refl)
+      (unrestricted-full w 7 0 (fullMask 0 6) refl)
+      (unrestricted-full mo 12 1 (fullMask 1 12) refl))))))

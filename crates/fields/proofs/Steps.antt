@@ -172,7 +172,7 @@ module _ (s : List ℕ) (at : ℕ) where
             five-outside g = rw (all-read, sym all-inside ∙ g) refl
 
             pub five-is : g₅ ≡ true
-                → Five.Is (record { minutes = minutes; hours = hours; days = days; months = months; weekdays = weekdays; flags = cond f₃ 1 0 + cond f₅ 2 0 }) c₅ ≡ fiveAs (cronRead s at)
+                → Five.Is (record { minutes = minutes; hours = hours; days = days; months = months; weekdays = weekdays; flags = cond f₃ 1 0 + cond f₅ 2 0 + cond f₄ 4 0 }) c₅ ≡ fiveAs (cronRead s at)
             unfolding fiveAs cronFrame
             five-is g =
                 let x₄ : g₄ ≡ true = both-true _ _ (sym (w .holds .inside) ∙ g) .0 in
@@ -189,4 +189,5 @@ module _ (s : List ℕ) (at : ℕ) where
                   w .holds .numbers g,
                   d .holds .flagged x₃,
                   w .holds .flagged g,
+                  mo .holds .flagged x₄,
                 ) refl

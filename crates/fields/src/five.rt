@@ -50,12 +50,18 @@ fn spaced(s: &[u8], field: Field, good: bool) -> Step
     Step::Is(mask, restricted, all_good, Cursor { at: next.at + 1 })
 }
 
-// "flags 1 (bit 0 day of month restricted, bit 1 day of week restricted)"
-fn flags(days: bool, weekdays: bool) -> u64
-    ensures { λ r. ⌜ r ≡ cond days 1 0 + cond weekdays 2 0 ⌝ }
+// One of the flags.
+fn flag(restricted: bool, value: u64) -> u64
+    ensures { λ r. ⌜ r ≡ cond restricted value 0 ⌝ }
 {
-    let first = if days { 1 } else { 0 };
-    if weekdays { first + 2 } else { first }
+    if restricted { value } else { 0 }
+}
+
+// "flags 1 (bit 0 day of month restricted, bit 1 day of week restricted)", and bit 2 month.
+fn flags(days: bool, weekdays: bool, months: bool) -> u64
+    ensures { λ r. ⌜ r ≡ cond days 1 0 + cond weekdays 2 0 + cond months 4 0 ⌝ }
+{
+    flag(days, 1) + flag(weekdays, 2) + flag(months, 4)
 }
 
 pub fn five_at(s: &[u8], c: Cursor) -> Five
@@ -70,7 +76,7 @@ pub fn five_at(s: &[u8], c: Cursor) -> Five
     let Step::Is(days, day, good, next) = spaced(s, DayOfMonth::day_of_month(s, next), good) else {
         return Five::Not;
     };
-    let Step::Is(months, _, good, next) = spaced(s, Month::month(s, next), good) else {
+    let Step::Is(months, month, good, next) = spaced(s, Month::month(s, next), good) else {
         return Five::Not;
     };
     let Step::Is(weekdays, weekday, good, next) = step_of(DayOfWeek::day_of_week(s, next), good)
@@ -86,7 +92,7 @@ pub fn five_at(s: &[u8], c: Cursor) -> Five
         days,
         months,
         weekdays,
-        flags: flags(day, weekday),
+        flags: flags(day, weekday, month),
     };
     Five::Is(frame, next)
 }

@@ -1,11 +1,11 @@
 -- The frame of a cron line holds what the line holds.
-use mathlib.Core.Bool.{Bool, true, false, cond, _&&_, and-comm, and-assoc}
+use mathlib.Core.Bool.{Bool, true, false, cond, _&&_, _||_, and-comm, and-assoc}
 use mathlib.Core.Path.{_≡_, refl, ap, _∙_}
 use Prim.Native.Nat.{ℕ, _+_, _-_, _/_, _%_, _<_, _≤_}
 use native.Mathlib.Omega.{arith}
 use Rattle.calendar.specs.Window.{localDate, localWeekday, dayMinutes, windowDays, windowMinutes}
 use Rattle.frames.proofs.MonthDays.{weekday-at-most}
-use Rattle.frames.specs.Cron.{cronDayAt, cronDay, cronTime, cronHeld}
+use Rattle.frames.specs.Cron.{joined, cronDayAt, cronDay, cronTime, cronHeld}
 use Rattle.masks.proofs.MaskFroms.{bit-in-mask}
 use Rattle.masks.specs.Masks.{bit, maskFrom}
 use Rattle.sheet.specs.Form.{Field}
@@ -13,12 +13,17 @@ use Rattle.sheet.specs.Meaning.{fieldHas, restricted, cronHolds}
 use Rattle.framed.specs.Framed.{cronFrame}
 use Rattle.framed.proofs.Counted.{place-low, place-high}
 
--- "bit 0 day of month restricted, bit 1 day of week restricted"
-flag-bits : (a b : Bool) → (bit (cond a 1 0 + cond b 2 0) 0 && bit (cond a 1 0 + cond b 2 0) 1) ≡ (a && b)
-flag-bits true true = refl
-flag-bits true false = refl
-flag-bits false true = refl
-flag-bits false false = refl
+-- "bit 0 day of month restricted, bit 1 day of week restricted", and bit 2 month
+flag-bits : (a b c : Bool) → joined (cond a 1 0 + cond b 2 0 + cond c 4 0) ≡ (b && (a || c))
+unfolding joined
+flag-bits true true true = refl
+flag-bits true true false = refl
+flag-bits true false true = refl
+flag-bits true false false = refl
+flag-bits false true true = refl
+flag-bits false true false = refl
+flag-bits false false true = refl
+flag-bits false false false = refl
 
 reordered : (day hour minute : Bool) → (day && (hour && minute)) ≡ (minute && (hour && day))
 reordered day hour minute = and-comm day (hour && minute) ∙ ap (λ (b : Bool). b && day) (and-comm hour minute) ∙ and-assoc minute hour day
@@ -40,6 +45,6 @@ cron-held mi h d mo w m l =
       field-bit d 1 31 (localDate n .day) (place-low false n in-window) (place-high false n in-window),
       field-bit mo 1 12 (localDate n .month % 12 + 1) (omega arith) (omega arith),
       field-bit w 0 6 (localWeekday n) (omega arith) (omega (arith, weekday-at-most n)),
-      flag-bits (restricted d) (restricted w),
+      flag-bits (restricted d) (restricted w) (restricted mo),
     )
     (reordered _ (fieldHas h (t / 60)) (fieldHas mi (t % 60)))

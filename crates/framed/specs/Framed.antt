@@ -18,7 +18,7 @@ use Rattle.sheet.specs.Parts.{Given, givenOf}
 use Rattle.sheet.specs.Range.{minuteOf, instantOfTime, offsetOfShift}
 use Rattle.sheet.specs.Words.{Signed}
 
--- "flags 1 (bit 0 day of month restricted, bit 1 day of week restricted)"
+-- "flags 1 (bit 0 day of month restricted, bit 1 day of week restricted)"; T-04: "Flag bit 2 of frame 03 says that the month is restricted"
 unfoldable pub cronFrame : Field → Field → Field → Field → Field → Cron
 cronFrame m h d mo w =
     record {
@@ -27,7 +27,7 @@ cronFrame m h d mo w =
       days = maskFrom (fieldHas d) 31 1;
       months = maskFrom (fieldHas mo) 12 1;
       weekdays = maskFrom (fieldHas w) 7 0;
-      flags = cond (restricted d) 1 0 + cond (restricted w) 2 0;
+      flags = cond (restricted d) 1 0 + cond (restricted w) 2 0 + cond (restricted mo) 4 0;
     }
 
 -- numbers of a signed list, "bit n from the end for −n"

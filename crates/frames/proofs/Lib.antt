@@ -1,7 +1,6 @@
 -- What the proofs of frames share.
 pub mod MonthDays
 pub mod MonthSets
-pub mod Flags
 pub mod Positions
 pub mod YearSets
 pub mod Weeks

@@ -6,15 +6,15 @@ use Prim.Native.Nat.{ℕ, suc, _+_, _-_, _%_, _≤_}
 use native.Mathlib.Omega.{arith}
 use borrow.Author.Tests.{lt-leb, eq-eqb, not-true, not-false}
 use lib.Dec.{T, leb, eqb}
-use Rattle.calendar.proofs.Every.{every}
+use Rattle.calendar.proofs.Every.{every, neither}
 use Rattle.calendar.specs.Below.{everyBelow}
 use Rattle.calendar.specs.Window.{monthFirst, monthDays, localWeekday}
 use Rattle.masks.proofs.MaskFroms.{mask-from-same, mask-none, bit-in-mask}
 use Rattle.masks.proofs.WithBits.{mask-from-with-last}
 use Rattle.masks.specs.Masks.{bit, maskFrom, withBit}
-use Rattle.frames.specs.Cron.{cronDayAt, cronDay}
+use Rattle.frames.specs.Cron.{joined, cronDayAt, cronDay}
 use Rattle.frames.specs.Months.{monthCounts, rulePart, monthPart, monthOut, dayOf, daysIn, InMonth, placeWanted}
-use Rattle.frames.specs.Numbers.{cronOf, ruleOf, monthsIn, ruleMonthsIn}
+use Rattle.frames.specs.Numbers.{cronOf, ruleOf, monthsIn, flagsIn, ruleMonthsIn}
 use Rattle.frames.specs.Rule.{noLimit, monthAllowed, monthDayAllowed, weekdayAllowed, inSet}
 use Rattle.frames.specs.Years.{positionsIn}
 use Rattle.frames.specs.Kinds.{cronKind, ruleKind, kindIn, isKind}
@@ -112,8 +112,8 @@ module _ (l : List ℕ) (start counts k n : ℕ) (i : InMonth k n) where
   out-by-kind : (a b : Bool) → isKind cronKind l ≡ a → isKind ruleKind l ≡ b → monthOut l k ≡ true → monthPart l start counts k n ≡ false
   unfolding monthOut monthPart cronDayAt
   out-by-kind true b p q e =
-      let m : bit (monthsIn l) (k % 12 + 1) ≡ false = not-true (bit (monthsIn l) (k % 12 + 1)) (simp p at e) in
-      rw p (cron-day-at (cronOf l) k n i ∙ simp m)
+      let m = neither (bit (monthsIn l) (k % 12 + 1)) (joined (flagsIn l)) (not-true (bit (monthsIn l) (k % 12 + 1) || joined (flagsIn l)) (simp p at e)) in
+      rw p (cron-day-at (cronOf l) k n i ∙ simp (m .0, m .1))
   out-by-kind false true p q e =
       let m = not-true (monthAllowed (ruleMonthsIn l) (k % 12 + 1)) (simp (p, q) at e) in
       rw (p, q) (out-rule (ruleOf l) k n m i start counts)
@@ -122,12 +122,8 @@ module _ (l : List ℕ) (start counts k n : ℕ) (i : InMonth k n) where
   pub out-part : monthOut l k ≡ true → monthPart l start counts k n ≡ false
   out-part e = out-by-kind (isKind cronKind l) (isKind ruleKind l) refl refl e
 
--- one of its months
+-- one of a rule's months
 module _ (l : List ℕ) (k : ℕ) (e : monthOut l k ≡ false) where
-  pub month-in : kindIn l ≡ cronKind → bit (monthsIn l) (k % 12 + 1) ≡ true
-  unfolding monthOut
-  month-in z = not-false (bit (monthsIn l) (k % 12 + 1)) (simp (eq-eqb (kindIn l) cronKind z) at e)
-
   pub rule-month-in : kindIn l ≡ ruleKind → monthAllowed (ruleMonthsIn l) (k % 12 + 1) ≡ true
   unfolding monthOut
   rule-month-in z = not-false (monthAllowed (ruleMonthsIn l) (k % 12 + 1)) (simp z at e)

@@ -5,13 +5,16 @@ use Rattle.calendar.specs.Window.{localDate, localWeekday, dayMinutes}
 use Rattle.masks.specs.Masks.{bit}
 use Rattle.frames.specs.declared.Cron.{Cron}
 
--- "A local minute is held if minute, hour and month match and the day does:
--- if day of month and day of week are both restricted, either suffices; else both must match."
+-- T-04: "month or day of month is restricted and day of week is too"; bit 0 of the flags is day of month, bit 1 day of week, bit 2 month
+unfoldable pub joined : ℕ → Bool
+joined flags = bit flags 1 && (bit flags 0 || bit flags 2)
+
+-- T-04: then "a day is held if it matches month and day of month together, or the day of week alone. Otherwise all three must match."
 unfoldable pub cronDayAt : Cron → ℕ → ℕ → ℕ → Bool
 cronDayAt f month day weekday =
-    let dayOk = bit (f .days) day in
+    let monthDayOk = bit (f .months) month && bit (f .days) day in
     let weekdayOk = bit (f .weekdays) weekday in
-    bit (f .months) month && cond (bit (f .flags) 0 && bit (f .flags) 1) (dayOk || weekdayOk) (dayOk && weekdayOk)
+    cond (joined (f .flags)) (monthDayOk || weekdayOk) (monthDayOk && weekdayOk)
 
 unfoldable pub cronDay : Cron → ℕ → Bool
 cronDay f d = cronDayAt f (localDate d .month % 12 + 1) (localDate d .day) (localWeekday d)

@@ -6,8 +6,8 @@ use lib.Dec.{ltb, eqb}
 use Rattle.calendar.specs.Window.{monthFirst, monthDays, windowMonths}
 use Rattle.masks.specs.Masks.{bit, maskFrom, bitsFrom, bitsBelow}
 use Rattle.frames.specs.Kinds.{cronKind, ruleKind, isKind, isDaily, isWeekly, isYearly}
-use Rattle.frames.specs.Cron.{cronDay}
-use Rattle.frames.specs.Numbers.{cronOf, ruleOf, monthsIn, ruleMonthsIn}
+use Rattle.frames.specs.Cron.{joined, cronDay}
+use Rattle.frames.specs.Numbers.{cronOf, ruleOf, monthsIn, flagsIn, ruleMonthsIn}
 use Rattle.frames.specs.Rule.{noLimit, monthAllowed, ordinalMask, inSet}
 use Rattle.frames.specs.Years.{positionsIn}
 use Rattle.frames.specs.declared.Ends.{Ends}
@@ -56,10 +56,10 @@ pub record InMonth (k n : ℕ) : Type 0 where
 unfoldable pub monthSet : List ℕ → ℕ → ℕ → ℕ → ℕ
 monthSet l start counts k = maskFrom (monthPart l start counts k) (monthDays k) 1
 
--- a month that is not in a cron frame's mask, "minute, hour and month match and the day does", or that a rule's leaves out
+-- a month that is not in a cron frame's mask, where no day of week alone suffices, or that a rule's leaves out
 unfoldable pub monthOut : List ℕ → ℕ → Bool
 monthOut l k =
-    cond (isKind cronKind l) (not (bit (monthsIn l) (k % 12 + 1)))
+    cond (isKind cronKind l) (not (bit (monthsIn l) (k % 12 + 1) || joined (flagsIn l)))
     (isKind ruleKind l && not (monthAllowed (ruleMonthsIn l) (k % 12 + 1)))
 
 -- of a month of `len` days that begins on weekday `first`: day d is the (n + 1)-th of its weekday, from the front or from the end, and that ordinal has it

@@ -35,9 +35,12 @@ ruleOf l =
       months = getD l 12 0;
     }
 
--- a cron frame's months, a rule's months and its start, the local minute of an extra or excepted one, by their place in the row
+-- a cron frame's months and flags, a rule's months and its start, the local minute of an extra or excepted one, by their place in the row
 abbrev pub monthsIn : List ℕ → ℕ
 monthsIn l = getD l 4 0
+
+abbrev pub flagsIn : List ℕ → ℕ
+flagsIn l = getD l 6 0
 
 abbrev pub ruleMonthsIn : List ℕ → ℕ
 ruleMonthsIn l = getD l 12 0

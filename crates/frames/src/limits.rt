@@ -11,6 +11,8 @@ use crate::turns;
 
 // Bits 1 to 31.
 pub const EVERY_DAY: u64 = 4294967294;
+// Bits 1 to 12.
+pub const EVERY_MONTH: u64 = 8190;
 // Bits 0 to 6.
 pub const EVERY_WEEKDAY: u64 = 127;
 // A week's mask times this is the mask twice, one week after the other.

@@ -1,10 +1,10 @@
 // What a frame says of a whole month, as a mask of its days.
 ghost use mathlib.Core.Path.{_≡_};
-ghost use mathlib.Core.Bool.{true};
+ghost use mathlib.Core.Bool.{true, cond};
 ghost use Prim.Native.Nat.{_+_, _%_, _≤_, _<_};
 ghost use Rattle.calendar.specs.Window.{monthFirst, monthDays, localWeekday, windowMonths};
 ghost use Rattle.masks.specs.Masks.{bit, maskFrom};
-ghost use Rattle.frames.specs.Cron.{cronDay};
+ghost use Rattle.frames.specs.Cron.{joined, cronDay};
 ghost use Rattle.frames.specs.Months.{monthCounts, dayOf, daysIn, nonePlaced, rulePart, monthSet, monthOut};
 ghost use Rattle.frames.specs.Numbers.{ruleOf, ruleMonthsIn};
 ghost use Rattle.frames.specs.Rule.{monthAllowed};
@@ -20,6 +20,13 @@ use crate::years;
 use calendar::num;
 use calendar::window;
 use calendar::year;
+
+// The bits of a cron frame's flags.
+const DAY_FLAG: u64 = 0;
+
+const WEEKDAY_FLAG: u64 = 1;
+
+const MONTH_FLAG: u64 = 2;
 
 fn first_weekday(k: u64) -> u64
     requires { ⌜ k < windowMonths ⌝ }
@@ -46,12 +53,28 @@ fn allowed(months: u64, month: u64) -> bool
     masks::test(months, month)
 }
 
+// Whether a day of week alone suffices by a cron frame's flags.
+fn is_joined(flags: u64) -> bool
+    ensures { λ r. ⌜ r ≡ joined flags ⌝ }
+{
+    if masks::test(flags, WEEKDAY_FLAG) {
+        if masks::test(flags, DAY_FLAG) {
+            return true;
+        }
+        return masks::test(flags, MONTH_FLAG);
+    }
+    false
+}
+
 // Whether month k is none of the frame's months: no day of it is held then.
 pub fn month_out(f: &Row, k: u64) -> bool
     ensures { λ r. ⌜ r ≡ monthOut (now (f .entry)) k ⌝ }
 {
     if f[places::KIND] == kinds::CRON {
-        return !masks::test(f[places::MONTHS], k % 12 + 1);
+        if masks::test(f[places::MONTHS], k % 12 + 1) {
+            return false;
+        }
+        return !is_joined(f[places::FLAGS]);
     }
     if f[places::KIND] == kinds::RULE {
         return !allowed(f[places::RULE_MONTHS], k % 12 + 1);
@@ -59,17 +82,29 @@ pub fn month_out(f: &Row, k: u64) -> bool
     false
 }
 
-// A cron frame's days of month k, one of its months.
+// The days of month k that a cron frame's month and day of month hold together.
+fn month_and_days(f: Cron, k: u64) -> u64
+    ensures { λ r. ⌜ r ≡ cond (bit (f .months) (k % 12 + 1)) (f .days) 0 ⌝ }
+{
+    if masks::test(f.months, k % 12 + 1) {
+        f.days
+    } else {
+        0
+    }
+}
+
+// A cron frame's days of month k.
 fn cron_set(f: Cron, k: u64) -> u64
-    requires { ⌜ (k < windowMonths) × (bit (f .months) (k % 12 + 1) ≡ true) ⌝ }
+    requires { ⌜ k < windowMonths ⌝ }
     ensures { λ r. ⌜ r ≡ maskFrom (λ n. cronDay f (dayOf k n)) (monthDays k) 1 ⌝ }
 {
     let len = window::month_days(k);
+    let days = month_and_days(f, k);
     let week = limits::week_days(f.weekdays, first_weekday(k));
-    if f.flags % 4 == 3 {
-        return days_up_to(f.days | week, len);
+    if is_joined(f.flags) {
+        return days_up_to(days | week, len);
     }
-    days_up_to(f.days & week, len)
+    days_up_to(days & week, len)
 }
 
 // Every interval'th month of a rule whose periods are months, or the months of every interval'th year.

@@ -5,6 +5,7 @@ use crate::bits::flag_good;
 use crate::bits::mask_good;
 use frames::Cron;
 use frames::limits::EVERY_DAY;
+use frames::limits::EVERY_MONTH;
 use frames::limits::EVERY_WEEKDAY;
 use frames::truth::both;
 
@@ -26,11 +27,14 @@ pub(crate) fn cron_good(f: Cron) -> bool
     if !mask_good(f.weekdays, 0, 6) {
         return false;
     }
-    if 4 <= f.flags {
+    if 8 <= f.flags {
         return false;
     }
     both(
         flag_good(f.flags, 0, f.days, EVERY_DAY),
-        flag_good(f.flags, 1, f.weekdays, EVERY_WEEKDAY),
+        both(
+            flag_good(f.flags, 1, f.weekdays, EVERY_WEEKDAY),
+            flag_good(f.flags, 2, f.months, EVERY_MONTH),
+        ),
     )
 }

@@ -43,7 +43,7 @@ cron-fits f h =
     let c = mask-below 1 31 (f .days) (both-true _ _ h2 .0) in
     let d = mask-below 1 12 (f .months) (both-true _ _ h3 .0) in
     let e = mask-below 0 6 (f .weekdays) (both-true _ _ h4 .0) in
-    let g = ltb-true (f .flags) 4 (both-true _ _ h5 .0) in
+    let g = ltb-true (f .flags) 8 (both-true _ _ h5 .0) in
     rw
     (lt-ltb (f .minutes) (256 ^ 8) (omega arith), lt-ltb (f .hours) (256 ^ 4) (omega arith), lt-ltb (f .days) (256 ^ 4) (omega arith), lt-ltb (f .months) (256 ^ 2) (omega arith), lt-ltb (f .weekdays) (256 ^ 1) (omega arith), lt-ltb (f .flags) (256 ^ 1) (omega arith))
 

@@ -28,7 +28,7 @@ fullMask low high = 2 ^ (high + 1) - 2 ^ low
 abbrev pub maskGood : ℕ → ℕ → ℕ → Bool
 maskGood low high mask = ltb 0 mask && onlyBits low high mask
 
--- "a flag not set only with a full mask, other flag bits 0"
+-- "a flag not set only with a full mask, other flag bits 0"; T-04: of the month "clear, it needs a full month mask"
 unfoldable pub cronGood : Cron → Bool
 cronGood f =
     maskGood 0 59 (f .minutes)
@@ -36,8 +36,9 @@ cronGood f =
     && (maskGood 1 31 (f .days)
     && (maskGood 1 12 (f .months)
     && (maskGood 0 6 (f .weekdays)
-    && (ltb (f .flags) 4
-    && ((bit (f .flags) 0 || eqb (f .days) (fullMask 1 31)) && (bit (f .flags) 1 || eqb (f .weekdays) (fullMask 0 6))))))))
+    && (ltb (f .flags) 8
+    && ((bit (f .flags) 0 || eqb (f .days) (fullMask 1 31))
+    && ((bit (f .flags) 1 || eqb (f .weekdays) (fullMask 0 6)) && (bit (f .flags) 2 || eqb (f .months) (fullMask 1 12)))))))))
 
 -- "mask bits only in named places": a pair with bits 1 to 31, and five weekday masks; T-01: of the months "bits 1 to 12 only"
 abbrev pub pairGood : Ends → Bool

@@ -1,7 +1,7 @@
 -- The sheets hold what the document says: the definitions are computed.
 use mathlib.Core.Bool.{true}
 use mathlib.Core.Path.{_≡_, refl}
-use Rattle.sheet.specs.Cases.{caseH, caseI, caseJ, caseK, caseL, caseRange, casePlace, caseExcept, caseRanks, caseLeap, caseMonths, caseYearPlaces, caseYearOrdinals, caseElections, caseYearDays, caseYearRanks, withSeconds, withoutSeconds, caseSeconds, caseSecondRanks, caseSecondDigits}
+use Rattle.sheet.specs.Cases.{caseH, caseI, caseJ, caseK, caseL, caseRange, casePlace, caseExcept, caseRanks, caseJune, caseLeap, caseMonths, caseYearPlaces, caseYearOrdinals, caseElections, caseYearDays, caseYearRanks, withSeconds, withoutSeconds, caseSeconds, caseSecondRanks, caseSecondDigits}
 use Rattle.sheet.specs.Open.{opened}
 
 pub h : caseH ≡ true
@@ -39,6 +39,10 @@ except = refl
 pub ranks : caseRanks ≡ true
 unfolding caseRanks opened
 ranks = refl
+
+pub june : caseJune ≡ true
+unfolding caseJune opened
+june = refl
 
 pub leap : caseLeap ≡ true
 unfolding caseLeap opened

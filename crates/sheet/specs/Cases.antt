@@ -101,6 +101,15 @@ unfoldable pub caseExcept : Bool
 caseExcept =
     eqb (heldDays (sheet "Z +0000\nR 20260131T0600 FREQ=MONTHLY;COUNT=3\nX 20260331T0600\n") 365 (minute 2026 1 1 6 0)) 2
 
+-- T-04: "`0 0 * 6 1` is every day of June and every Monday, not the Mondays of June": of 2026 30 days and 47 Mondays beside them;
+-- `0 0 13 6 5` is 13 June, a Saturday, and 52 Fridays; `0 0 * 6 *` and `0 0 13 6 *` are of June alone
+unfoldable pub caseJune : Bool
+caseJune =
+    eqb (heldDays (sheet "Z +0000\nC 0 0 * 6 1\n") 365 (minute 2026 1 1 0 0)) 77
+    && (eqb (heldDays (sheet "Z +0000\nC 0 0 13 6 5\n") 365 (minute 2026 1 1 0 0)) 53
+    && (eqb (heldDays (sheet "Z +0000\nC 0 0 * 6 *\n") 365 (minute 2026 1 1 0 0)) 30
+    && (eqb (heldDays (sheet "Z +0000\nC 0 0 13 6 *\n") 365 (minute 2026 1 1 0 0)) 1 && sheetHeld (sheet "Z +0000\nC 0 0 13 6 *\n") (minute 2026 6 13 0 0))))
+
 -- T-01: "29 February comes in leap years only": of the days of 2001 to 2004, on one
 unfoldable pub caseLeap : Bool
 caseLeap =

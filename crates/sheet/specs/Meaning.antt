@@ -32,18 +32,17 @@ restricted (list es) = true
 abbrev pub monthNumber : ℕ → ℕ
 monthNumber d = localDate d .month % 12 + 1
 
--- "A local minute is held if minute, hour and month match and the day does:
--- if day of month and day of week are both restricted, either suffices; else both must match."
+-- "A local minute is held if minute, hour .. match and the day does"; T-04: "if month or day of month is restricted and day of week is too,
+-- a day is held if it matches month and day of month together, or the day of week alone. Otherwise all three must match."
 unfoldable pub cronHolds : Field → Field → Field → Field → Field → ℕ → Bool
 cronHolds minute hour day month weekday m =
     let d = m / dayMinutes in
     let t = m % dayMinutes in
-    let dayOk = fieldHas day (localDate d .day) in
+    let monthDayOk = fieldHas month (monthNumber d) && fieldHas day (localDate d .day) in
     let weekdayOk = fieldHas weekday (localWeekday d) in
     fieldHas minute (t % 60)
     && (fieldHas hour (t / 60)
-    && (fieldHas month (monthNumber d)
-    && cond (restricted day && restricted weekday) (dayOk || weekdayOk) (dayOk && weekdayOk)))
+    && cond (restricted weekday && (restricted day || restricted month)) (monthDayOk || weekdayOk) (monthDayOk && weekdayOk))
 
 -- the first month of the period that holds month k, and the first after it; T-01: "For YEARLY the period is the calendar year"
 -- Nothing is counted within a period that is shorter than a month.

@@ -29,7 +29,7 @@ pub const TIMES: [&str; 9] = [
     "X 20991231T235900",
 ];
 
-pub const CRONS: [&str; 13] = [
+pub const CRONS: [&str; 18] = [
     "C * * * * *",
     "C 30 2 * * *",
     "C 0 0 30 2 *",
@@ -43,6 +43,11 @@ pub const CRONS: [&str; 13] = [
     "C 0005-0006,59,59,7 0000,023 31,1,1 12,01-02 6,0,6",
     "C 5-5,3-4,10-20,15-25 1 2 3 4",
     "C 7,007 12-12 28-30,29-31 1,1-1 3",
+    "C 0 0 * 6 1",
+    "C 0 0 13 6 5",
+    "C 0 0 13 6 *",
+    "C 0 0 * 1-12 *",
+    "C 0 0 1,15 12,1-11 *",
 ];
 
 /// Their starts are occurrences; most of them on Saturday, 31 January 2026, the fifth and last one of its month.

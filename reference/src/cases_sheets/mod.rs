@@ -9,10 +9,14 @@ mod rooms;
 use crate::answer_sheets::request;
 use crate::cases_lines::damage::{at_every_byte, damaged};
 use crate::cases_plans::{
-    sheets_at_the_ends, sheets_of_positions, sheets_of_years, some_sheet, EVERY_KIND, SORTS,
+    sheets_at_the_ends, sheets_of_crons, sheets_of_eight, sheets_of_positions, sheets_of_years,
+    some_sheet, two_years, EVERY_KIND, SORTS,
 };
-use crate::generate::{bad_sheet, edge_lines, refused_sheet, sheet_of_lines, with_seconds};
+use crate::generate::{
+    bad_sheet, edge_lines, refused_sheet, sheet_of_lines, with_seconds, TWO_YEARS,
+};
 use crate::random::Random;
+use crate::shown::shown;
 
 /// Rounds for `--times 1`.
 const ROUNDS: u64 = 128;
@@ -58,6 +62,11 @@ pub fn requests(seed: u64, times: u64) -> Box<dyn Iterator<Item = String>> {
     for sheet in searched_sheets() {
         fixed.extend(about(sheet.as_bytes(), &mut random));
     }
+    for sheet in sheets_of_eight() {
+        let text = shown(sheet.as_bytes());
+        let asked = two_years();
+        fixed.extend(asked.map(|(name, from)| format!("sheet_{name} {TWO_YEARS} {from} {text}")));
+    }
     let rounds = times.saturating_mul(ROUNDS);
     let rounds = (0..rounds).flat_map(move |number| round(number, &mut random));
     Box::new(fixed.into_iter().chain(rounds))
@@ -79,7 +88,9 @@ pub fn searched_sheets() -> Vec<String> {
     let all = written.into_iter().chain([lengths::longest_plan()]);
     let all = all.chain(sheets_at_the_ends());
     let all = all.chain(sheets_of_positions());
-    all.chain(sheets_of_years()).collect()
+    all.chain(sheets_of_years())
+        .chain(sheets_of_crons())
+        .collect()
 }
 
 /// The sheets of a round: those that are searched are taken.

@@ -23,7 +23,7 @@ const EDGES: [Edges; 42] = [
     (0x03, 13, 4, &[0, 1, 2, 1 << 31, -2, -1]),
     (0x03, 17, 2, &[0, 1, 2, 1 << 12, 1 << 13, 0x1FFE, -1]),
     (0x03, 19, 1, &[0, 1, 0x40, 0x7F, 0x80, 0xFF]),
-    (0x03, 20, 1, &[0, 1, 2, 3, 4, 7, 0x83]),
+    (0x03, 20, 1, &[0, 1, 2, 3, 4, 5, 6, 7, 8, 15, 0x87]),
     (0x04, 1, 1, &[0, 1, 2, 3, 4, 5, 0xFF]),
     (0x04, 2, 2, &[0, 1, 2, 999, 1_000, -1]),
     (0x04, 4, 4, &[0, PAST - 1, PAST, LEAST]),
@@ -139,6 +139,32 @@ pub fn with_month_masks(plan: &str) -> Vec<Vec<u8>> {
         text_of(&frames)
     };
     masks.chain([0, 0x1FFE, 0xFFFF]).map(changed).collect()
+}
+
+/// Days, months and weekdays of a cron frame: first byte, length, a full mask and one that is not.
+const RESTRICTED: [(usize, usize, [i64; 2]); 3] = [
+    (13, 4, [-2, 1 << 13]),
+    (17, 2, [0x1FFE, 1 << 6]),
+    (19, 1, [0x7F, 1 << 5]),
+];
+
+/// The plan with other flags in its last cron frame, 0 to 8 and more, each with every choice of full masks.
+pub fn with_flags(plan: &str) -> Vec<Vec<u8>> {
+    let mut frames = frames_of(plan);
+    let chosen = frames.iter().rposition(|frame| frame[0] == 0x03);
+    let chosen = chosen.expect("a plan with a cron line");
+    let mut plans = Vec::new();
+    for flags in (0..=8).chain([15, 16, 32, 64, 128, 255]) {
+        for choice in 0..8 {
+            for (place, (at, length, masks)) in RESTRICTED.into_iter().enumerate() {
+                let mask = masks[choice >> place & 1];
+                set(&mut frames[chosen], at, length, mask);
+            }
+            set(&mut frames[chosen], 20, 1, flags);
+            plans.push(text_of(&frames));
+        }
+    }
+    plans
 }
 
 /// The plan with each of its rule frames cut to so many bytes, one at a time.

@@ -14,10 +14,10 @@ mod zones;
 pub use bad_lines::edge_lines;
 pub use bad_plan::{
     bad_plan, damaged, damaged_everywhere, plans_at_the_edges, plans_at_the_zone_limits,
-    with_month_masks, with_short_rules,
+    with_flags, with_month_masks, with_short_rules,
 };
 pub use bad_sheet::{bad_sheet, refused_sheet};
-pub use cron::cron_line;
+pub use cron::{all_cron_lines, cron_line, eight_cron_lines, TWO_YEARS};
 pub use edge_sheets::{empty_sheet, ends_sheet, full_sheet, midnight_sheet, sheet_of_lines};
 pub use rule::{all_positions, all_positions_of_years, large_set_rule_line, rule_line};
 pub use seconds::with_seconds;

@@ -11,8 +11,8 @@ use std::io::{self, Write};
 
 use crate::entries::{compile, Loaded};
 use crate::generate::{
-    bad_plan, bad_sheet, crowded_sheet, edge_lines, lines_of_years, plans_at_the_edges,
-    refused_sheet, sheet, short_sheet, with_seconds,
+    bad_plan, bad_sheet, crowded_sheet, edge_lines, eight_cron_lines, lines_of_years,
+    plans_at_the_edges, refused_sheet, sheet, short_sheet, with_seconds,
 };
 use crate::hex::word_of;
 use crate::meaning::{of_sheet, Meaning};
@@ -48,6 +48,9 @@ pub fn dump(seed: u64, sheets: u64, plans: u64, out: &mut impl Write) -> io::Res
     }
     for text in sheets_of_years(seed) {
         sheet_case(text.as_bytes(), &mut random, out)?;
+    }
+    for line in eight_cron_lines() {
+        sheet_case(format!("Z +0000\n{line}\n").as_bytes(), &mut random, out)?;
     }
     for number in 0..sheets {
         let text = some_sheet(number % SHEET_SORTS, &mut random);

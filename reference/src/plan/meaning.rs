@@ -46,16 +46,19 @@ fn add_cron(cron: &CronFrame, minutes: &mut MinuteSet) {
     }
 }
 
-/// "flags 1 (bit 0 day of month restricted, bit 1 day of week restricted)".
+/// "flags 1 (bit 0 day of month restricted, bit 1 day of week restricted)", bit 2 the month: "if month or day of month
+/// is restricted and day of week is too", one of the two suffices; "Otherwise all three must match."
 fn cron_holds_day(cron: &CronFrame, day: i64) -> bool {
     let date = date_of(day);
-    let both_restricted = bit(cron.flags, 0) && bit(cron.flags, 1);
-    let matches = [bit(cron.days, date.day), bit(cron.weekdays, weekday(day))];
-    let day_matches = match both_restricted {
+    let [of_month, of_week, month] = [0, 1, 2].map(|flag| bit(cron.flags, flag));
+    let matches = [
+        bit(cron.months, date.month) && bit(cron.days, date.day),
+        bit(cron.weekdays, weekday(day)),
+    ];
+    match (month || of_month) && of_week {
         true => matches.contains(&true),
         false => !matches.contains(&false),
-    };
-    bit(cron.months, date.month) && day_matches
+    }
 }
 
 fn add_rule(rule: &RuleFrame, minutes: &mut MinuteSet) {

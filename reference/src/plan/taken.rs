@@ -43,7 +43,8 @@ fn transition_allowed(before: &Plan, transition: &Transition) -> bool {
         && before.zone.allows(transition)
 }
 
-/// "cron masks non-zero, only named bits, a flag not set only with a full mask, other flag bits 0".
+/// "cron masks non-zero, only named bits, a flag not set only with a full mask, other flag bits 0"; the month's flag,
+/// "clear, [..] needs a full month mask".
 fn cron_allowed(cron: &CronFrame) -> bool {
     let masks = [
         (cron.minutes, MINUTES),
@@ -57,7 +58,9 @@ fn cron_allowed(cron: &CronFrame) -> bool {
         .all(|(mask, named)| *mask != 0 && mask & !named == 0);
     let days_flag_holds = cron.flags & 1 != 0 || cron.days == DAYS;
     let weekdays_flag_holds = cron.flags & 2 != 0 || cron.weekdays == WEEKDAYS;
-    masks_hold && days_flag_holds && weekdays_flag_holds && cron.flags <= 3
+    let months_flag_holds = cron.flags & 4 != 0 || cron.months == MONTHS;
+    let flags_hold = days_flag_holds && weekdays_flag_holds && months_flag_holds;
+    masks_hold && flags_hold && cron.flags <= 7
 }
 
 fn rule_allowed(rule: &RuleFrame) -> bool {

@@ -4,7 +4,7 @@ use native.Mathlib.Omega.{arith}
 use borrow.Author.Tests.{eq-eqb, ne-eqb}
 use denote.Ref.{now}
 use Rattle.frames.specs.Months.{monthPart, monthSet}
-use Rattle.frames.proofs.MonthSets.{month-none, month-same, out-part, month-in, rule-month-in}
+use Rattle.frames.proofs.MonthSets.{month-none, month-same, out-part, rule-month-in}
 use borrow.Author.Needs.{needs}
 use Rattle.frames.proofs.months.month_set.Statement.{statement}
 use Rattle.frames.proofs.months.month_set.Tie as tie
@@ -28,9 +28,7 @@ cron-of-requires : tie.Need-cron-of-requires
 cron-of-requires c κs = search needs
 
 cron-set-requires : tie.Need-cron-set-requires
-cron-set-requires c κs = let a = c .before .before .before .before .before .before .args in
-    let here = sym (c .before .before .before .before .month-out .ensures) ∙ c .before .before .before .if2 .left in
-    rw (c .cron-of .ensures) (omega arith, month-in (now (a .f)) (a .k) here (c .before .if3 .taken))
+cron-set-requires c κs = omega arith
 
 returns-3 : tie.Need-returns-3
 unfolding monthPart monthSet

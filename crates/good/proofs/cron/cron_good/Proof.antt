@@ -82,7 +82,7 @@ returns-6 c =
     let e3 = e4 .before .before in
     let e2 = e3 .before .before in
     let e1 = e2 .before .before in
-    rw (minutes e1, hours e2, days e3, months e4, weekdays e5, le-ltb _ 4 (c .if6 .taken))
+    rw (minutes e1, hours e2, days e3, months e4, weekdays e5, le-ltb _ 8 (c .if6 .taken))
 
 flag-good-requires : tie.Need-flag-good-requires
 flag-good-requires c κs = search needs
@@ -90,28 +90,36 @@ flag-good-requires c κs = search needs
 flag-good-requires-2 : tie.Need-flag-good-requires-2
 flag-good-requires-2 c κs = search needs
 
+flag-good-requires-3 : tie.Need-flag-good-requires-3
+flag-good-requires-3 c κs = search needs
+
 both-requires : tie.Need-both-requires
 both-requires c κs = search needs
+
+both-requires-2 : tie.Need-both-requires-2
+both-requires-2 c κs = search needs
 
 returns-7 : tie.Need-returns-7
 unfolding cronGood
 returns-7 c =
-    let e6 = c .before .before .before in
+    let e6 = c .before .before .before .before .before in
     let e5 = e6 .before .before in
     let e4 = e5 .before .before in
     let e3 = e4 .before .before in
     let e2 = e3 .before .before in
     let e1 = e2 .before .before in
     rw (
-      c .both .ensures,
-      c .before .flag-good2 .ensures,
-      c .before .before .flag-good .ensures,
+      c .both2 .ensures,
+      c .before .both .ensures,
+      c .before .before .flag-good3 .ensures,
+      c .before .before .before .flag-good2 .ensures,
+      c .before .before .before .before .flag-good .ensures,
       minutes e1,
       hours e2,
       days e3,
       months e4,
       weekdays e5,
-      lt-ltb _ 4 (e6 .if6 .left),
+      lt-ltb _ 8 (e6 .if6 .left),
     )
 
 pub cron-good-spec : {M : Type 1} → statement M
@@ -131,5 +139,7 @@ cron-good-spec =
     returns-6
     flag-good-requires
     flag-good-requires-2
+    flag-good-requires-3
     both-requires
+    both-requires-2
     returns-7)
