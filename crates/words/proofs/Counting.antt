@@ -52,19 +52,20 @@ pub digits-at : (s : List ℕ) (at k : ℕ) → digitsIn (drop at s) ≡ suc k �
 digits-at s at k e = omega (arith, digits-fit s at (omega arith), e)
 
 -- ---- a time's bytes
-pub clock-digits : (n : ℕ) → clockDigits n ≡ true → (4 ≤ n) × (n ≤ 6)
+pub clock-digits : (n : ℕ) → clockDigits n ≡ true → (4 ≤ n) × (n ≤ 6) × (n ≡ 5 → ⊥)
 unfolding clockDigits
 clock-digits n e = by-number (eqb n 4) (eqb n 6) refl refl e
   where
-    by-number : (a b : Bool) → eqb n 4 ≡ a → eqb n 6 ≡ b → (a || b) ≡ true → (4 ≤ n) × (n ≤ 6)
-    by-number true b f g h = let m = eqb-true n 4 f in (omega arith, omega arith)
-    by-number false true f g h = let m = eqb-true n 6 g in (omega arith, omega arith)
+    by-number : (a b : Bool) → eqb n 4 ≡ a → eqb n 6 ≡ b → (a || b) ≡ true → (4 ≤ n) × (n ≤ 6) × (n ≡ 5 → ⊥)
+    by-number true b f g h = let m = eqb-true n 4 f in (omega arith, omega arith, λ e. omega arith)
+    by-number false true f g h = let m = eqb-true n 6 g in (omega arith, omega arith, λ e. omega arith)
     by-number false false f g h = let z : _≡_ {A = ℕ} 0 1 = cc in absurd (omega arith)
 
--- what a time uses lies within the line
+-- what a time uses: 13 bytes or 15, within the line
 pub record Used (s : List ℕ) (at used : ℕ) : Type 0 where
   pub low : 13 ≤ used
   pub high : used ≤ 15
+  pub other : used ≡ 14 → ⊥
   pub inside : at + used ≤ length s
 
 pub time-used : (s : List ℕ) (at used : ℕ) → used ≡ timeBytes s at → (used ≡ 0 → ⊥) → Used s at used
@@ -77,7 +78,7 @@ time-used s at used q = rw q (by-test (digitsIn (drop (at + 9) s)) refl _ refl)
     by-test n g true e h =
         let d = clock-digits n (both-true (eqb (getD s (at + 8) 0) 84) _ (both-true (eqb (digitsIn (drop at s)) 8) _ e .1) .1) in
         let f = digits-fit s (at + 9) (omega (arith, d)) in
-        record { low = omega (arith, d); high = omega (arith, d); inside = omega (arith, f) }
+        record { low = omega (arith, d); high = omega (arith, d); other = λ q. d .2 (omega arith); inside = omega (arith, f) }
     by-test n g false e h = absurd (h refl)
 
 -- a byte other than 0 stands in the line
