@@ -56,6 +56,11 @@ static int date_of_day(void) {
     return found.number == EVK_TAKEN && found.year == 9999 && found.month == 12 && found.day == 31;
 }
 
+static int date_of_costliest(void) {
+    evk_date found = evk_date_of_day(11047);
+    return found.number == EVK_TAKEN && found.year == 2000 && found.month == 3 && found.day == 31;
+}
+
 static int day_of_iso(void) {
     evk_day found = evk_day_of_iso(9999, 52, 5);
     return found.number == EVK_TAKEN && found.day == 2932896;
@@ -141,6 +146,7 @@ static const struct {
 } calls[] = {
     {"evk_day_of_date, the last day", day_of_date, 150},
     {"evk_date_of_day, the last day", date_of_day, 150},
+    {"evk_date_of_day, the costliest found, 2000-03-31", date_of_costliest, 150},
     {"evk_day_of_iso, the last day", day_of_iso, 200},
     {"evk_iso_of_day, the last day", iso_of_day, 250},
     {"evk_check, 31 rules with every limit under 32 transitions", check, 150000},

@@ -63,7 +63,8 @@ static const struct line_case {
     {"T 20260329T010000 +0200", NULL, ZONED, 0, 0, 1500, 0, "0200D2963C0078", 1095},
     {"D 20260101T0600", NULL, LINES, 0, 0, 0, 0, "0500D0AE08", 921},
     {"D 20260101T060000", NULL, LINES, 0, 0, 0, 0, "0500D0AE08", 921},
-    {"X 20260101T0600", NULL, LINES, 0, 0, 0, 0, "0600D0AE08", 950},
+    {"X 20260101T0600", NULL, LINES, 0, 0, 0, 0, "0600D0AE08", 921},
+    {"X 20260101T060000", NULL, LINES, 0, 0, 0, 0, "0600D0AE08", 921},
     /* the refusals: a byte, the form, the place, a range, the parts together, the limits of a transition, the start */
     {"C 30 2 * * \x7f", NULL, LINES, 0, 0, 0, 2, "", 160},
     {"C 30 2 * *", NULL, LINES, 0, 0, 0, 3, "", 600},

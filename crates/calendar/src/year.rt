@@ -3,7 +3,7 @@ ghost use mathlib.Core.Path.{_≡_};
 ghost use mathlib.Core.Bool.{true};
 ghost use Prim.Native.Nat.{_≤_, _<_};
 ghost use Rattle.signed.specs.Bias.{allDays};
-ghost use Rattle.calendar.specs.Calendar.{leapYear, yearLength, yearStart, monthStart, monthLength, yearDay, monthDay, weekdayOf};
+ghost use Rattle.calendar.specs.Calendar.{leapYear, yearStart, monthStart, monthLength, yearDay, monthDay, weekdayOf};
 
 // The days of four centuries, the last of which has a day more than the others.
 const FOUR_CENTURIES: u64 = 146097;
@@ -32,12 +32,6 @@ pub fn leap(year: u64) -> bool
         return true;
     }
     year % 400 == 0
-}
-
-pub fn length(year: u64) -> u64
-    ensures { λ r. ⌜ r ≡ yearLength year ⌝ }
-{
-    if leap(year) { 366 } else { 365 }
 }
 
 // The days of the year before its month: from March on the months start every 30 7/12 days, two days earlier than with a February of 30.

@@ -1,11 +1,11 @@
 -- Sets of a month's days: the whole month, none of it, one built up, and what a frame says of a day by its place.
-use mathlib.Core.Bool.{Bool, true, false, cond, not, _&&_, _||_, and-false}
+use mathlib.Core.Bool.{Bool, true, false, cond, _&&_, _||_, and-false}
 use mathlib.Core.List.{List}
 use mathlib.Core.Path.{_≡_, refl, sym, ap, _∙_}
 use Prim.Native.Nat.{ℕ, suc, _+_, _-_, _%_, _≤_}
 use native.Mathlib.Omega.{arith}
-use borrow.Author.Tests.{lt-leb, eq-eqb, not-true, not-false}
-use lib.Dec.{T, leb, eqb}
+use borrow.Author.Tests.{lt-leb, not-true, not-false}
+use lib.Dec.{T, leb}
 use Rattle.calendar.proofs.Every.{every, neither}
 use Rattle.calendar.specs.Below.{everyBelow}
 use Rattle.calendar.specs.Window.{monthFirst, monthDays, localWeekday}

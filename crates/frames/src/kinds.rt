@@ -20,3 +20,9 @@ pub const WEEKLY: u64 = 2;
 pub const MONTHLY: u64 = 3;
 
 pub const YEARLY: u64 = 4;
+// The bits of a cron frame's flags: which of its fields are restricted.
+pub const DAY_FLAG: u64 = 0;
+
+pub const WEEKDAY_FLAG: u64 = 1;
+
+pub const MONTH_FLAG: u64 = 2;

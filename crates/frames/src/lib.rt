@@ -9,7 +9,7 @@ pub mod truth;
 mod turns;
 pub mod years;
 
-// Frame 03: the masks of the five fields; flag bit 0 says that the day of month is restricted, bit 1 that the day of week is.
+// Frame 03: the masks of the five fields; flag bit 0 says that the day of month is restricted, bit 1 that the day of week is, bit 2 that the month is.
 pub struct Cron {
     pub minutes: u64,
     pub hours: u64,

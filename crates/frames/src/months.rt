@@ -21,13 +21,6 @@ use calendar::num;
 use calendar::window;
 use calendar::year;
 
-// The bits of a cron frame's flags.
-const DAY_FLAG: u64 = 0;
-
-const WEEKDAY_FLAG: u64 = 1;
-
-const MONTH_FLAG: u64 = 2;
-
 fn first_weekday(k: u64) -> u64
     requires { ⌜ k < windowMonths ⌝ }
     ensures { λ r. ⌜ r ≡ localWeekday (monthFirst k) ⌝ }
@@ -57,16 +50,16 @@ fn allowed(months: u64, month: u64) -> bool
 fn is_joined(flags: u64) -> bool
     ensures { λ r. ⌜ r ≡ joined flags ⌝ }
 {
-    if masks::test(flags, WEEKDAY_FLAG) {
-        if masks::test(flags, DAY_FLAG) {
+    if masks::test(flags, kinds::WEEKDAY_FLAG) {
+        if masks::test(flags, kinds::DAY_FLAG) {
             return true;
         }
-        return masks::test(flags, MONTH_FLAG);
+        return masks::test(flags, kinds::MONTH_FLAG);
     }
     false
 }
 
-// Whether month k is none of the frame's months: no day of it is held then.
+// Whether the frame's months leave no day of month k.
 pub fn month_out(f: &Row, k: u64) -> bool
     ensures { λ r. ⌜ r ≡ monthOut (now (f .entry)) k ⌝ }
 {

@@ -4,6 +4,7 @@ ghost use Rattle.plan.specs.Taken.{cronGood};
 use crate::bits::flag_good;
 use crate::bits::mask_good;
 use frames::Cron;
+use frames::kinds;
 use frames::limits::EVERY_DAY;
 use frames::limits::EVERY_MONTH;
 use frames::limits::EVERY_WEEKDAY;
@@ -31,10 +32,10 @@ pub(crate) fn cron_good(f: Cron) -> bool
         return false;
     }
     both(
-        flag_good(f.flags, 0, f.days, EVERY_DAY),
+        flag_good(f.flags, kinds::DAY_FLAG, f.days, EVERY_DAY),
         both(
-            flag_good(f.flags, 1, f.weekdays, EVERY_WEEKDAY),
-            flag_good(f.flags, 2, f.months, EVERY_MONTH),
+            flag_good(f.flags, kinds::WEEKDAY_FLAG, f.weekdays, EVERY_WEEKDAY),
+            flag_good(f.flags, kinds::MONTH_FLAG, f.months, EVERY_MONTH),
         ),
     )
 }

@@ -102,13 +102,16 @@ caseExcept =
     eqb (heldDays (sheet "Z +0000\nR 20260131T0600 FREQ=MONTHLY;COUNT=3\nX 20260331T0600\n") 365 (minute 2026 1 1 6 0)) 2
 
 -- T-04: "`0 0 * 6 1` is every day of June and every Monday, not the Mondays of June": of 2026 30 days and 47 Mondays beside them;
--- `0 0 13 6 5` is 13 June, a Saturday, and 52 Fridays; `0 0 * 6 *` and `0 0 13 6 *` are of June alone
+-- `0 0 13 6 5` is 13 June, a Saturday, and 52 Fridays; `1-12` is restricted, so with a day of week every day is held; else all must match
 unfoldable pub caseJune : Bool
 caseJune =
-    eqb (heldDays (sheet "Z +0000\nC 0 0 * 6 1\n") 365 (minute 2026 1 1 0 0)) 77
-    && (eqb (heldDays (sheet "Z +0000\nC 0 0 13 6 5\n") 365 (minute 2026 1 1 0 0)) 53
-    && (eqb (heldDays (sheet "Z +0000\nC 0 0 * 6 *\n") 365 (minute 2026 1 1 0 0)) 30
-    && (eqb (heldDays (sheet "Z +0000\nC 0 0 13 6 *\n") 365 (minute 2026 1 1 0 0)) 1 && sheetHeld (sheet "Z +0000\nC 0 0 13 6 *\n") (minute 2026 6 13 0 0))))
+    let days : String → ℕ = λ text. heldDays (sheet text) 365 (minute 2026 1 1 0 0) in
+    eqb (days "Z +0000\nC 0 0 * 6 1\n") 77
+    && (eqb (days "Z +0000\nC 0 0 13 6 5\n") 53
+    && (eqb (days "Z +0000\nC 0 0 * 1-12 1\n") 365
+    && (eqb (days "Z +0000\nC 0 0 * * 5\n") 52
+    && (eqb (days "Z +0000\nC 0 0 * 6 *\n") 30
+    && (eqb (days "Z +0000\nC 0 0 13 6 *\n") 1 && sheetHeld (sheet "Z +0000\nC 0 0 13 6 *\n") (minute 2026 6 13 0 0))))))
 
 -- T-01: "29 February comes in leap years only": of the days of 2001 to 2004, on one
 unfoldable pub caseLeap : Bool
