@@ -17,7 +17,11 @@ struct text {
     uint8_t bytes[16448];
     size_t length;
 };
-static struct text rare, crowded_up, crowded_down, most_limited, counted;
+static struct text rare, crowded_up, crowded_down, most_limited, counted, most_placed, counted_years;
+
+#define MOST_PLACED_RULE \
+    "R 20000101T0600 FREQ=YEARLY;BYMONTH=1,2,3,4,5,6,7,8,9,10,11,12;BYDAY=SU,MO,TU,WE,TH,FR,-5SA,-4FR,-4SA,-2SA,-1SA,1MO,1SA,2SA,3SU,3SA,4FR,4SA,5SA;" \
+    "BYMONTHDAY=-18,1,4,8,15,22;BYSETPOS=-31,-26,-24,-23,-16,-12,-8,-6,-4,1,4,8,9,12,14,17,20,24,28,29,31;COUNT=9999\n"
 
 static void append(struct text *to, const char *bytes) {
     size_t length = strlen(bytes);
@@ -43,6 +47,8 @@ static void make_texts(void) {
          "R 20000101T0600 FREQ=MONTHLY;BYDAY=SU,MO,TU,WE,TH,FR,SA,1SU,-1SU;BYMONTHDAY=1,2,3,4,5,6,7,8,9,10,11,12,13,14,15,16,17,18,19,20,21,22,23,24,25,26,"
          "27,28,29,30,31,-1;BYSETPOS=1,-1;COUNT=9999\n",
          63, "");
+    make(&most_placed, "010000\n", MOST_PLACED, 63, "FF40\n");
+    make(&counted_years, "Z +0000\n", MOST_PLACED_RULE, 63, "");
 }
 
 /* Each answers 1 where the answer is right. The last day is document 01's mark (d). */
@@ -132,11 +138,19 @@ static int check_most_limited(void) {
     return evk_check(most_limited.bytes, most_limited.length).number == EVK_TAKEN;
 }
 
-/* There are 2,400 occurrences and not 9,999: the plan is that of the rules without COUNT. */
-static int compile(void) {
+/* The century has fewer occurrences than 9,999, of the first 2,400: the plan is that of the rules without COUNT. */
+static int compiles(const struct text *sheet, const struct text *wanted) {
     static uint8_t plan[5241];
-    evk_compiled found = evk_compile(counted.bytes, counted.length, plan, sizeof plan);
-    return found.number == EVK_TAKEN && found.length == most_limited.length && memcmp(plan, most_limited.bytes, found.length) == 0;
+    evk_compiled found = evk_compile(sheet->bytes, sheet->length, plan, sizeof plan);
+    return found.number == EVK_TAKEN && found.length == wanted->length && memcmp(plan, wanted->bytes, found.length) == 0;
+}
+
+static int compile(void) {
+    return compiles(&counted, &most_limited);
+}
+
+static int compile_years(void) {
+    return compiles(&counted_years, &most_placed);
 }
 
 static const struct {
@@ -162,6 +176,7 @@ static const struct {
     {"evk_previous of such a plan", previous_of_crowded, 360000000},
     {"evk_check, 63 rules with every limit", check_most_limited, 250000},
     {"evk_compile, 63 rules with every limit and a COUNT that the century does not fill", compile, 100000000},
+    {"evk_compile, 63 yearly rules with 21 positions and such a COUNT", compile_years, 120000000},
 };
 enum { CALLS = sizeof calls / sizeof calls[0] };
 

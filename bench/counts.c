@@ -7,7 +7,7 @@
 
 uint64_t probe_nth_day(const uint64_t *numbers, uint64_t count, uint64_t low);
 
-enum { COUNTS = 7, DAY = 1440 };
+enum { COUNTS = 9, DAY = 1440 };
 
 /* From the start's day on. 13676040 is 2026-01-01 06:00, a Thursday and local day 9497; 360 is 2000-01-01 06:00, a Saturday.
    Where a rule has fewer occurrences, all of the window is counted, and year 0 stands for none. */
@@ -29,6 +29,9 @@ static const struct {
     {"every third week, Monday to Friday, all", {4, 2, 3, 360, 52595999, 62}, 9999, 0, {0, 0, 0, 0}, 450000},
     /* the last month ends on a Thursday */
     {"monthly, last workday, the 1,200th", {4, 3, 1, 360, 52595999, 62, 0, 0, 0, 0, 0, 2}, 1200, 0, {2099, 12, 31, 0}, 1200000},
+    /* 219240 is 2000-06-01 06:00, local day 152, and 3240 is 2000-01-03 06:00, local day 2 and the year's first workday */
+    {"yearly on 1 June, the 100th", {4, 4, 1, 219240, 52595999, 0, 2, 0, 0, 0, 0, 0, 64}, 100, 152, {2099, 6, 1, 0}, 200000},
+    {"yearly, first and last workday, the 200th", {4, 4, 1, 3240, 52595999, 62, 0, 0, 0, 0, 2, 2}, 200, 2, {2099, 12, 31, 0}, 480000},
 };
 
 int main(int argc, char **argv) {

@@ -95,8 +95,9 @@ int main(void) {
             size_t used = touched(all[i].work, &c, &wrong);
             most = used > most ? used : most;
         }
-        printf("%6zu of %d bytes of stack, the thread's own among them  %s%s\n", most, STACK, all[i].name, wrong ? ": WRONG" : "");
-        status |= wrong != NULL || most > STACK;
+        printf("%6zu of at most %d bytes of stack, the thread's own among them  %s", most, ALLOWED, all[i].name);
+        puts(wrong ? ": WRONG" : most > ALLOWED ? ": MISSED" : "");
+        status |= wrong != NULL || most > ALLOWED;
     }
     return status;
 }

@@ -128,6 +128,10 @@
 #define MOST_LIMITED \
     "040300010000016803228D1F7FFFFFFFFE000000020100000000010000000000000002000000020000\n" /* R 20000101T0600 FREQ=MONTHLY;BYDAY=SU,..,SA,1SU,-1SU;BYMONTHDAY=1,2,..,31,-1;BYSETPOS=1,-1 */
 
+/* Of the yearly rules that were tried the one whose years take longest to count: positions from both ends reach through all months. */
+#define MOST_PLACED \
+    "040400010000016803228D1F3F004081120004000042404160404040006040B1125312858111501FFE\n" /* of MOST_PLACED_RULE in calls.c, without its COUNT */
+
 /* Every minute, but for the 31 from 2000-02-29 09:36 on, or from 2028-02-29 01:36 on. */
 #define EXCEPTED(MINUTE) "06" MINUTE "\n"
 #define FIFTEEN_EXCEPTED(FRONT) \

@@ -26,9 +26,9 @@ int main(void) {
         memset(plan, UNWRITTEN, PLAN_ROOM);
         size_t used = touched(compile, &asked, NULL);
         int good = same_answer(answer, right, asked.answer, plan);
-        printf("%6zu of %d bytes of stack, the thread's own among them  %s", used, STACK, sheet_cases[k].name);
-        puts(!good ? ": WRONG" : used > STACK ? ": MISSED" : "");
-        status |= !good || used > STACK;
+        printf("%6zu of at most %d bytes of stack, the thread's own among them  %s", used, ALLOWED, sheet_cases[k].name);
+        puts(!good ? ": WRONG" : used > ALLOWED ? ": MISSED" : "");
+        status |= !good || used > ALLOWED;
     }
     return status;
 }

@@ -78,7 +78,7 @@
     "0600E20374\n"                                                                     /* X 20280229T0300 */ \
     "FF40\n"
 
-enum { SHEET_CASES = 5, SHEET_ROOM = 16448, PLAN_ROOM = 5241, UNWRITTEN = 0x5A };
+enum { SHEET_CASES = 6, SHEET_ROOM = 16448, PLAN_ROOM = 5241, UNWRITTEN = 0x5A };
 
 static const struct sheet_case {
     const char *name, *file;
@@ -92,6 +92,7 @@ static const struct sheet_case {
      YEARS_OF_SUMMER WORKDAYS WORKDAYS WORKDAYS WORKDAYS WORKDAYS WORKDAYS WORKDAY "FF40\n", 0},
     {"compile 31 rules with every limit under 32 transitions", "bench/peers/limited.sheet",
      YEARS_OF_SUMMER LIMITEDS LIMITEDS LIMITEDS LIMITEDS LIMITEDS LIMITEDS LIMITED "FF40\n", 0},
+    {"compile 31 yearly rules with positions under 32 transitions", "bench/peers/yearly.sheet", YEARLY_PLAN, 0},
 };
 
 /* Reads the case's sheet: how long it is. */

@@ -9,6 +9,9 @@
 /* Below the stack there is as much room again, filled too, so that a thread that takes too much is seen and harms nothing. */
 enum { STACK = 65536, ROOM = 2 * STACK, FILL = 0xA5 };
 
+/* What an exported function may take, the thread's own among it. */
+enum { ALLOWED = 16384 };
+
 /* The bytes that a thread has touched, more than STACK where it went over its stack; *answer is what its work answers. */
 static size_t touched(void *(*work)(void *), void *argument, void **answer) {
     unsigned char *room = NULL;

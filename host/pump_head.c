@@ -4,7 +4,7 @@
      13801050 2026-03-29 03:30 +0200
 
    A refusal is its number and line, as last line (`11 0` where there are no more doses), and the exit status is then 1; 2 means that the
-   words or the file cannot be read. What it prints of document 01's example stands in pump_head.out. */
+   words or the file cannot be read, or that nothing can be written. What it prints of document 01's example stands in pump_head.out. */
 #include <errno.h>
 #include <inttypes.h>
 #include <stdio.h>

@@ -30,7 +30,7 @@ enum {
     EVK_TOO_LONG = 1,     /* the sheet has over 16448 bytes or over 64 lines */
     EVK_BAD_LINE = 2,     /* a line over 256 bytes, with a byte outside 20 to 7E, or without LF */
     EVK_BAD_FORM = 3,     /* a line of no listed form, an unknown name or value word */
-    EVK_BAD_PLACE = 4,    /* a line where it may not stand, or no line at all */
+    EVK_BAD_PLACE = 4,    /* a line where it may not stand (a 33rd T too), or no line at all: line 1 */
     EVK_OUT_OF_RANGE = 5, /* a number outside its range, a cron range that falls, or a date, day or ISO date not in the calendar */
     EVK_BAD_PARTS = 6,    /* rule parts that do not go together */
     EVK_BAD_CHANGE = 7,   /* a transition too near the one before it, or of too many minutes or none */
@@ -90,8 +90,8 @@ evk_found evk_previous(const uint8_t *plan, size_t plan_length, int64_t instant)
    Of "01003C\nFF01\n" local minute 60 is instant 0; -1 is refused. */
 evk_found evk_instant_of_local(const uint8_t *plan, size_t plan_length, int64_t local_minute);
 
-/* The offset in minutes, -720 to 840, at an instant, which may be any, by the plan's zone: the wall clock then shows local
-   minute instant + offset. Refused: EVK_NO_PLAN. Of "01003C\nFF01\n" it is 60 at every instant. */
+/* The offset in minutes, -720 to 840, at an instant, which may be any, by the plan's zone: where instant + offset is 0 to
+   52595999, the wall clock then shows that local minute. Refused: EVK_NO_PLAN. Of "01003C\nFF01\n" it is 60 at every instant. */
 evk_offset evk_offset_at(const uint8_t *plan, size_t plan_length, int64_t instant);
 
 #ifdef __cplusplus
