@@ -74,6 +74,7 @@ static void show_plans(void) {
     const char *dose = "010000\n0500000000\nFF02\n", *hour = "01003C\nFF01\n";
     show_check(hour);
     show_check("01003C\nFF02\n");
+    show_check("");
     show_found("next after INT64_MIN", evk_next(bytes(dose), strlen(dose), INT64_MIN));
     show_found("next after 0", evk_next(bytes(dose), strlen(dose), 0));
     show_found("previous before INT64_MAX", evk_previous(bytes(dose), strlen(dose), INT64_MAX));
@@ -92,6 +93,7 @@ int main(void) {
     show_date(2027, 1, 1);
     show_date(1900, 2, 29);
     show_iso(2026, 53, 5);
+    show_iso(2027, 53, 5);
     show_iso(9999, 52, 6);
     show_day(11016);
     show_day(2932897);

@@ -16,9 +16,9 @@ use crate::step::step;
 use frames::places::Rows;
 
 // A line without LF, and a sheet without a line.
-const NO_END: u64 = 2;
+const NO_END: u64 = line::BYTES;
 
-const EMPTY: u64 = 4;
+const EMPTY: u64 = line::PLACE;
 
 // The number of frames and the bytes of their plan lines, or the first bad line.
 pub(crate) enum Gathered {

@@ -11,8 +11,6 @@ use Rattle.calendar.specs.Window.{localDate}
 use Rattle.frames.specs.Kinds.{rowNumbers, kindIn}
 use Rattle.frames.specs.Numbers.{cronOf, ruleOf, dayHeld, startMonth}
 use Rattle.frames.specs.Years.{yearPlaced, yearCounts}
-use Rattle.frames.specs.declared.Cron.{Cron}
-use Rattle.frames.specs.declared.Rule.{Rule}
 use Rattle.days.specs.Steps.{Holds, Ready, InYear, OneYear, readied, startMonthIn, lastMonthIn, lastDayIn, countsIn}
 use Rattle.days.proofs.Answers.{holds-at}
 

@@ -10,7 +10,7 @@ use borrow.Author.Tests.{eqb-true}
 use Rattle.calendar.proofs.Every.{both-true}
 use Rattle.calendar.proofs.Leasts.{Least, Last, least-none, last-none}
 use Rattle.calendar.proofs.Windows.{month-first-mono, month-first-next}
-use Rattle.calendar.specs.Window.{monthFirst, monthDays, localDate}
+use Rattle.calendar.specs.Window.{localDate}
 use Rattle.frames.specs.Kinds.{ruleKind, yearlyNumber, kindIn, frequencyIn, isKind}
 use Rattle.frames.specs.Years.{yearly, yearPlaced}
 use Rattle.days.specs.Steps.{Holds, Passed, OneYear, yearFirst, yearPast}

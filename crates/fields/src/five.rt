@@ -50,6 +50,13 @@ fn spaced(s: &[u8], field: Field, good: bool) -> Step
     Step::Is(mask, restricted, all_good, Cursor { at: next.at + 1 })
 }
 
+// What the flags of a restricted day of month, day of week and month stand for: bits 0, 1 and 2.
+const DAY_FLAG: u64 = 1;
+
+const WEEKDAY_FLAG: u64 = 2;
+
+const MONTH_FLAG: u64 = 4;
+
 // One of the flags.
 fn flag(restricted: bool, value: u64) -> u64
     ensures { λ r. ⌜ r ≡ cond restricted value 0 ⌝ }
@@ -61,7 +68,7 @@ fn flag(restricted: bool, value: u64) -> u64
 fn flags(days: bool, weekdays: bool, months: bool) -> u64
     ensures { λ r. ⌜ r ≡ cond days 1 0 + cond weekdays 2 0 + cond months 4 0 ⌝ }
 {
-    flag(days, 1) + flag(weekdays, 2) + flag(months, 4)
+    flag(days, DAY_FLAG) + flag(weekdays, WEEKDAY_FLAG) + flag(months, MONTH_FLAG)
 }
 
 pub fn five_at(s: &[u8], c: Cursor) -> Five

@@ -3,7 +3,7 @@ use mathlib.Core.Bool.{Bool, true, false, cond, not, _&&_, _||_, and-true, and-f
 use mathlib.Core.List.{List}
 use mathlib.Core.Path.{_≡_, refl, sym, ap, ap₂, fun-ext, _∙_}
 use Prim.Native.Nat.{ℕ, zero, suc, _+_, _-_, _*_, _/_, _%_, _^_, _<_, _≤_}
-use native.Mathlib.Nat.{mod-one, zero-add, add-comm, add-assoc, mul-left-comm, mul-le-mul-right, mod-eq-of-lt, pow-le-pow-right, pow-succ', div-le-self, mod-le, div-div-eq-div-mul}
+use native.Mathlib.Nat.{zero-add, add-assoc, mul-left-comm, mul-le-mul-right, mod-eq-of-lt, pow-le-pow-right, pow-succ', div-le-self, mod-le, div-div-eq-div-mul}
 use lib.Pow.{pow-add}
 use native.Mathlib.Omega.{arith}
 use native.Mathlib.Decide.{decLt}
@@ -16,14 +16,14 @@ use lib.Seq.{getD-set-same, getD-set-other}
 use Rattle.calendar.proofs.Windows.{month-days-range, month-first-next, month-first-mono}
 use Rattle.calendar.specs.Below.{countFrom}
 use Rattle.calendar.specs.Window.{monthFirst, monthDays}
-use Rattle.masks.proofs.Bits.{bit-of-zero, bit-above, bit-of-quotient, bit-of-rest}
+use Rattle.masks.proofs.Bits.{bit-above, bit-of-quotient, bit-of-rest}
 use Rattle.masks.proofs.Counts.{count-same, count-at-most, count-parts, bits-below-next, bits-in-two, bits-below-one}
 use Rattle.masks.proofs.MaskFroms.{bit-below-mask}
 use Rattle.masks.specs.Masks.{bit, bitsBelow, bitsFrom}
-use Rattle.frames.specs.Kinds.{cronKind, ruleKind, dailyNumber, rowNumbers, kindIn, isKind, isDaily, isWeekly, isYearly}
+use Rattle.frames.specs.Kinds.{cronKind, ruleKind, dailyNumber, rowNumbers, kindIn, isKind, isDaily, isYearly}
 use Rattle.frames.specs.Months.{dayOf, daysIn, InMonth, monthCounts, nonePlaced, rulePart, monthPart, monthSet, placeWanted}
 use Rattle.frames.specs.Rule.{noLimit, monthDayAllowed, weekdayAllowed, inSet, setFirst, setPast, placed}
-use Rattle.frames.specs.Years.{dayCount, packed, packedSum, reach, reachBack, outer, reached, yearly, yearPlaced, yearCounts, leftOf, noneCounted, positionsIn, bared, Bare}
+use Rattle.frames.specs.Years.{dayCount, packed, packedSum, reach, reachBack, outer, reached, yearPlaced, yearCounts, leftOf, noneCounted, positionsIn, bared, Bare}
 use Rattle.frames.specs.Numbers.{ruleOf}
 use Rattle.frames.specs.declared.Ends.{Ends}
 use Rattle.frames.specs.declared.Rule.{Rule}

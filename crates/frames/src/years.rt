@@ -20,6 +20,9 @@ const YEARS: u64 = 100;
 // The values of a count.
 const COUNT: u64 = 32;
 
+// Its bits.
+const WIDTH: u64 = 5;
+
 // The frame with its whole day set in every month: as a daily one, without positions.
 fn bare(f: &Row) -> Row
     ensures { λ r. ⌜ r ≡ bared (now (f .entry)) ⌝ }
@@ -58,7 +61,7 @@ fn from_front(g: &Row, y: u64, mask: u64) -> Reached
             return Reached { months: m, counts };
         }
         let here = day_count(g, 12 * y + m);
-        counts = counts + (here << (5 * m));
+        counts = counts + (here << (WIDTH * m));
         left = left >> here;
         m = m + 1;
     }
@@ -79,7 +82,7 @@ fn from_back(g: &Row, y: u64, mask: u64, front: Reached) -> u64
         }
         m = m - 1;
         let here = day_count(g, 12 * y + m);
-        counts = counts + (here << (5 * m));
+        counts = counts + (here << (WIDTH * m));
         left = left >> here;
     }
     counts
@@ -160,7 +163,7 @@ pub(crate) fn none_counted(f: &Row, counts: u64, k: u64) -> bool
     ensures { λ r. ⌜ r ≡ noneCounted (ruleOf (now (f .entry))) counts k ⌝ }
 {
     if f[places::FREQUENCY] == kinds::YEARLY {
-        return (counts >> (5 * (k % 12))) % COUNT == 0;
+        return (counts >> (WIDTH * (k % 12))) % COUNT == 0;
     }
     false
 }
@@ -174,9 +177,9 @@ pub(crate) fn positions_in(f: &Row, counts: u64, k: u64) -> Ends
         return positions;
     }
     let m = k % 12;
-    let here = (counts >> (5 * m)) % COUNT;
+    let here = (counts >> (WIDTH * m)) % COUNT;
     let before = sum(counts, m);
-    let after = sum(counts >> (5 * (m + 1)), 11 - m);
+    let after = sum(counts >> (WIDTH * (m + 1)), 11 - m);
     Ends {
         front: left_of(positions.front, before, here),
         back: left_of(positions.back, after, here),

@@ -10,6 +10,9 @@ use frames::limits::EVERY_MONTH;
 use frames::limits::EVERY_WEEKDAY;
 use frames::truth::both;
 
+// The three flags together are less.
+const FLAGS_END: u64 = 8;
+
 pub(crate) fn cron_good(f: Cron) -> bool
     ensures { λ r. ⌜ r ≡ cronGood f ⌝ }
 {
@@ -28,7 +31,7 @@ pub(crate) fn cron_good(f: Cron) -> bool
     if !mask_good(f.weekdays, 0, 6) {
         return false;
     }
-    if 8 <= f.flags {
+    if FLAGS_END <= f.flags {
         return false;
     }
     both(

@@ -2,13 +2,15 @@
 ghost use mathlib.Core.Path.{_≡_};
 ghost use Rattle.lines.specs.Lines.{lineEnd, begunBy, linesIn};
 
+pub const LF: u8 = 10;
+
 // The place of the first LF from `at` on, or the text's end; a place past the end stays.
 pub fn line_end(text: &[u8], at: usize) -> usize
     ensures { λ r. ⌜ r ≡ lineEnd (now (text .entry)) at ⌝ }
 {
     let mut i = at;
     while i < text.len() {
-        if text[i] == 10 {
+        if text[i] == LF {
             return i;
         }
         i += 1;
@@ -20,7 +22,7 @@ pub fn line_end(text: &[u8], at: usize) -> usize
 fn begun(byte: u8) -> usize
     ensures { λ r. ⌜ r ≡ begunBy byte ⌝ }
 {
-    if byte == 10 { 0 } else { 1 }
+    if byte == LF { 0 } else { 1 }
 }
 
 // How many lines a text has, a tail without LF among them.

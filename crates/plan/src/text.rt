@@ -240,6 +240,6 @@ pub fn write(buf: &mut [u8], at: usize, frame: Frame) -> usize
     let row = row_of(puts::moved_frame(frame));
     puts::put_row(buf, at, &sizes, &row);
     let end = at + n;
-    buf[end] = 10;
+    buf[end] = lines::LF;
     end + 1
 }

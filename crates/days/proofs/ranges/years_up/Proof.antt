@@ -1,6 +1,5 @@
 -- What is passed up to a year and in it; the days left fall.
 use native.Mathlib.Omega.{arith}
-use mathlib.Core.Path.{_≡_}
 use Prim.Native.Nat.{_-_, _≤_}
 use denote.Ref.{now}
 use Rattle.frames.specs.Numbers.{dayHeld}

@@ -1,10 +1,9 @@
 -- The months that the positions reach from the front, and then from the end; the frame has the same day set as a daily one without positions.
-use mathlib.Core.Path.{_≡_, sym, ap, _∙_}
-use Prim.Native.Nat.{ℕ, _*_}
+use mathlib.Core.Path.{_≡_}
 use lib.ListN.{length}
 use denote.Ref.{now}
 use Rattle.frames.specs.Kinds.{rowNumbers}
-use Rattle.frames.specs.Years.{Bare, reached}
+use Rattle.frames.specs.Years.{reached}
 use Rattle.frames.proofs.YearSets.{bared-is, bare-counts}
 use borrow.Author.Needs.{needs}
 use Rattle.frames.proofs.years.counted.Statement.{statement}

@@ -1,7 +1,7 @@
 -- The counts of the months passed, and what the places that are left can still reach.
 use native.Mathlib.Omega.{arith}
-use mathlib.Core.Path.{_≡_, refl, sym, ap, _∙_}
-use Prim.Native.Nat.{ℕ, _+_, _-_, _*_, _/_, _^_, _<_, _≤_}
+use mathlib.Core.Path.{_≡_, sym, ap, _∙_}
+use Prim.Native.Nat.{ℕ, _+_, _-_, _*_, _^_, _≤_}
 use denote.Ref.{now}
 use Rattle.frames.specs.Numbers.{ruleOf}
 use Rattle.frames.specs.Years.{dayCount, packed, outer, reachBack}

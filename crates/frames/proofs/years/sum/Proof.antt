@@ -1,8 +1,8 @@
 -- What is passed and the sum of what is left make the whole.
 use native.Mathlib.Omega.{arith}
-use mathlib.Core.Path.{_≡_, refl, sym, ap, _∙_}
+use mathlib.Core.Path.{_≡_}
 use native.Mathlib.Nat.{zero-add}
-use Prim.Native.Nat.{ℕ, _+_, _-_, _*_, _≤_}
+use Prim.Native.Nat.{_+_, _-_, _*_, _≤_}
 use Rattle.frames.specs.Years.{packedSum}
 use Rattle.frames.proofs.YearSets.{packed-sum-next, packed-sum-none}
 use Rattle.frames.proofs.years.sum.Statement.{statement}
