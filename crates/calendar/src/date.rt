@@ -8,7 +8,7 @@ pub const LAST_YEAR: u64 = 9999;
 // 9999-12-31.
 pub const LAST_DAY: u64 = signed::LAST;
 
-#[derive(Drop)]
+#[derive(Clone, Copy)]
 pub struct Date {
     pub year: u64,
     pub month: u64,
@@ -16,14 +16,14 @@ pub struct Date {
 }
 
 // The day of a date, or that there is none.
-#[derive(Drop)]
+#[derive(Clone, Copy)]
 pub enum Day {
     Is(u64),
     Outside,
 }
 
 // The date of a day, or that there is none.
-#[derive(Drop)]
+#[derive(Clone, Copy)]
 pub enum Dated {
     Is(Date),
     Outside,

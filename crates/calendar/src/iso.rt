@@ -7,7 +7,7 @@ ghost use Rattle.calendar.specs.Iso.{iso_start, iso_weeks, iso_year, day_of_iso,
 use crate::date::Day;
 use crate::{date, year};
 
-#[derive(Drop)]
+#[derive(Clone, Copy)]
 pub struct IsoDate {
     pub year: u64,
     pub week: u64,
@@ -15,7 +15,7 @@ pub struct IsoDate {
 }
 
 // The ISO date of a day, or that there is none.
-#[derive(Drop)]
+#[derive(Clone, Copy)]
 pub enum IsoDated {
     Is(IsoDate),
     Outside,

@@ -9,14 +9,14 @@ const FOUR_CENTURIES: u64 = 146097;
 const FOUR_YEARS: u64 = 1461;
 
 // A year, and the days of it before a day.
-#[derive(Drop)]
+#[derive(Clone, Copy)]
 pub struct YearDay {
     pub year: u64,
     pub day: u64,
 }
 
 // A month, and the day of it, which counts from 1.
-#[derive(Drop)]
+#[derive(Clone, Copy)]
 pub struct MonthDay {
     pub month: u64,
     pub day: u64,

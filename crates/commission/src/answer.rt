@@ -1,10 +1,11 @@
 // What is written of a sheet that was read.
 ghost use Rattle.std.specs.Prelude.{◌++◌, ◌≡◌, ◌+◌, ◌<◌, ◌≤◌, length, take};
-ghost use Rattle.compile.specs.Compiled.{compile as compileOf};
+ghost use Rattle.compile.specs.Compiled.{compile as compile_of};
 ghost use Rattle.commission.specs.Answer.{answer_of, decimal, refusal_text};
 ghost use Rattle.io.specs.Counts.{IsPrefixLen};
 
 use compile::{Compiled, TOO_LONG};
+use std::io::Write;
 
 // Puts a part behind the text that the buffer's front holds.
 fn append(out: &mut [u8], at: usize, part: &[u8]) -> usize
@@ -12,7 +13,9 @@ fn append(out: &mut [u8], at: usize, part: &[u8]) -> usize
     ensures length { result ≡ at + length part.now }
     ensures text { take result out.new ≡ take at out.old ++ part.now }
 {
-    at + bytes::copy(part, &mut out[at..])
+    let end = at + part.len();
+    out[at..end].copy_from_slice(part);
+    end
 }
 
 fn append_number(out: &mut [u8], at: usize, n: u64) -> usize
@@ -42,7 +45,7 @@ fn answer(sheet: &[u8], more: &[u8], out: &mut [u8]) -> usize
     requires value { 16448 ≡ length out.old }
     requires in_bounds { 0 < length more.now → 16448 ≤ length sheet.now }
     ensures prefix_len { IsPrefixLen result out.new }
-    ensures text { take result out.new ≡ answer_of (compileOf (sheet.now ++ more.now) 16448) }
+    ensures text { take result out.new ≡ answer_of (compile_of (sheet.now ++ more.now) 16448) }
 {
     if 0 < more.len() {
         return refuse(out, TOO_LONG, 0);
@@ -55,16 +58,16 @@ fn answer(sheet: &[u8], more: &[u8], out: &mut [u8]) -> usize
 }
 
 // Standard output is handed the answer of the sheet that was read, and nothing else.
-fn send(sheet: &[u8], more: &[u8], text: &[u8]) -> bool
-    requires { text.now ≡ answer_of (compileOf (sheet.now ++ more.now) 16448) }
+fn send<W: Write>(output: &mut W, sheet: &[u8], more: &[u8], text: &[u8]) -> bool
+    requires { text.now ≡ answer_of (compile_of (sheet.now ++ more.now) 16448) }
 {
-    io::write_all(libc::STDOUT_FILENO, text)
+    output.write_all(text).is_ok()
 }
 
-pub(crate) fn give(sheet: &[u8], more: &[u8], plan: &mut [u8])
+pub(crate) fn give<W: Write>(output: &mut W, sheet: &[u8], more: &[u8], plan: &mut [u8])
     requires value { 16448 ≡ length plan.old }
     requires in_bounds { 0 < length more.now → 16448 ≤ length sheet.now }
 {
     let length = answer(sheet, more, plan);
-    send(sheet, more, &plan[..length]);
+    send(output, sheet, more, &plan[..length]);
 }

@@ -1,4 +1,6 @@
 // The program: a sheet from standard input, its plan or its refusal to standard output.
+#![tactic(auto)]
+
 mod answer;
 mod input;
 
@@ -6,25 +8,38 @@ ghost use Rattle.std.specs.Prelude.{◌≡◌, length};
 
 use compile::MOST_BYTES;
 use input::Input;
+use std::io::{Read, Write};
 
 // Where a read fails nothing is written: what came before it may be a part of a sheet.
-fn run(sheet: &mut [u8], more: &mut [u8], plan: &mut [u8])
+fn run<R: Read, W: Write>(
+    input: &mut R,
+    output: &mut W,
+    sheet: &mut [u8],
+    more: &mut [u8],
+    plan: &mut [u8],
+)
     requires { 16448 ≡ length plan.old }
 {
-    let read = input::fill(sheet);
+    let read = input::fill(input, sheet);
     let Input::Is(n) = read else {
         return;
     };
-    let past = input::past(n, more);
+    let past = input::past(input, n, more);
     let Input::Is(k) = past else {
         return;
     };
-    answer::give(&sheet[..n], &more[..k], plan);
+    answer::give(output, &sheet[..n], &more[..k], plan);
 }
 
-fn main() {
+fn main(rt: HostRuntime) {
     let mut sheet = [0u8; MOST_BYTES];
     let mut more = [0u8; 1];
     let mut plan = [0u8; MOST_BYTES];
-    run(&mut sheet, &mut more, &mut plan);
+    run(
+        &mut rt.stdin(),
+        &mut rt.stdout(),
+        &mut sheet,
+        &mut more,
+        &mut plan,
+    );
 }

@@ -11,8 +11,8 @@ use lib.ListN.{length, take, drop, length-append, length-map}
 use lib.Seq.{sets, length-sets, sets-eq, take-append_seam}
 use Rattle.calendar.proofs.Every.{neither}
 use Rattle.framed.specs.Framed.{frame_of}
-use Rattle.hex.proofs.Puts.{put_inside}
-use Rattle.hex.specs.Hex.{put_at}
+use Rattle.hex_lines.proofs.Puts.{put_inside}
+use Rattle.hex_lines.specs.Hex.{put_at}
 use Rattle.lines.specs.Lines.{lines_of, lines_in}
 use Rattle.plan.proofs.Placing.{text_snoc}
 use Rattle.plan.proofs.Rows.{frame_in_row}

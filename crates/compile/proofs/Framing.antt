@@ -18,7 +18,7 @@ use Rattle.lines.specs.Lines.{lines_of}
 use Rattle.plan.specs.declared.Frame.{Frame}
 use Rattle.sheet.specs.Form.{Form, zone, change, cron, rule, extra, except, form_of}
 use Rattle.sheet.specs.Range.{instant_of_time}
-use Rattle.sheet.specs.Refusals.{Context as Standings, context_after, line_refusal, Sheet, taken, refused as refusedSheet, following as followed, too_long, read_from, read_sheet, bad_line, bad_at, bad_length}
+use Rattle.sheet.specs.Refusals.{Context as Standings, context_after, line_refusal, Sheet, taken, refused as refused_sheet, following as followed, too_long, read_from, read_sheet, bad_line, bad_at, bad_length}
 use Rattle.compile.specs.Reading.{SheetFrames, frames, refused, following, sheet_frames_from, first, sheet_frames, frames_from}
 use Rattle.compile.specs.Steps.{next_context}
 
@@ -41,32 +41,32 @@ context_next c (except t) = refl
 -- n lines were read, and the next begins at a place
 unfoldable pub as_from : ℕ → ℕ → List (List ℕ) → List ℕ → Sheet → SheetFrames
 as_from n at lines tail (taken fs) = frames (map frame_of fs)
-as_from n at lines tail (refusedSheet number line) = refused number line (at + bad_at (line - n) lines) (bad_length (line - n) lines tail)
+as_from n at lines tail (refused_sheet number line) = refused number line (at + bad_at (line - n) lines) (bad_length (line - n) lines tail)
 
 -- a refusal is of a line not yet read
 Later : ℕ → Sheet → Type 0
 Later n (taken fs) = Unit {0}
-Later n (refusedSheet number line) = n < line
+Later n (refused_sheet number line) = n < line
 
 module _ (n at : ℕ) (line : List ℕ) (more : List (List ℕ)) (tail : List ℕ) where
   one_on : (f : Form) (r : Sheet) → Later (n + 1) r
       → following (frame_of f) (as_from (n + 1) (at + length line + 1) more tail r) ≡ as_from n at (line ∷ more) tail (followed f r)
   unfolding as_from Later bad_line bad_at bad_length
   one_on f (taken fs) l = refl
-  one_on f (refusedSheet number k) l =
+  one_on f (refused_sheet number k) l =
       let e : k - n ≡ suc (suc (k - n - 2)) = omega (arith, l) in
       let g : k - (n + 1) ≡ suc (k - n - 2) = omega (arith, l) in
       let h : at + length line + 1 + bad_at (suc (k - n - 2)) more ≡ at + (length line + 1 + bad_at (suc (k - n - 2)) more) = omega arith in
       rw (e, g, h) refl
 
-  at_once : (number : ℕ) → refused number (n + 1) at (length line) ≡ as_from n at (line ∷ more) tail (refusedSheet number (n + 1))
+  at_once : (number : ℕ) → refused number (n + 1) at (length line) ≡ as_from n at (line ∷ more) tail (refused_sheet number (n + 1))
   unfolding as_from bad_line bad_at bad_length
   at_once number = let e : n + 1 - n ≡ 1 = omega arith in let z : at + 0 ≡ at = omega arith in rw (e, z) refl
 
 later_on : (n : ℕ) (f : Form) (r : Sheet) → Later (n + 1) r → Later n (followed f r)
 unfolding Later
 later_on n f (taken fs) l = tt
-later_on n f (refusedSheet number k) l = omega (arith, l)
+later_on n f (refused_sheet number k) l = omega (arith, l)
 
 record Same (n at : ℕ) (c : Context) (lines : List (List ℕ)) (tail : List ℕ) : Type 0 where
   answer : sheet_frames_from n at c lines tail ≡ as_from n at lines tail (read_from n (context_as c) lines tail)
@@ -97,7 +97,7 @@ module _ (n at : ℕ) (c : Context) (line : List ℕ) (more : List (List ℕ)) (
   read_on f o z = rw (read_from, o, eq-eqb _ _ z) refl
 
   read_stop : (number : ℕ) → lined (context_as c) line ≡ Lined.Refused number
-      → read_from n (context_as c) (line ∷ more) tail ≡ refusedSheet number (n + 1)
+      → read_from n (context_as c) (line ∷ more) tail ≡ refused_sheet number (n + 1)
   unfolding read_from
   read_stop number e = by_form (form_of line) refl
     where
@@ -105,13 +105,13 @@ module _ (n at : ℕ) (c : Context) (line : List ℕ) (more : List (List ℕ)) (
       is = sym (lined_number (context_as c) line) ∙ ap refusal_of e
 
       by_number : (f : Form) → form_of line ≡ some f → (b : Bool) → eqb (line_refusal (context_as c) line) 0 ≡ b
-          → read_from n (context_as c) (line ∷ more) tail ≡ refusedSheet number (n + 1)
+          → read_from n (context_as c) (line ∷ more) tail ≡ refused_sheet number (n + 1)
       by_number f o true z =
           let g : Lined.Refused number ≡ Lined.Is (frame_of f) = sym e ∙ lined_frame (context_as c) line (eqb-true _ 0 z) f o in
           let y : ◌≡◌ {A = ℕ} 0 1 = cc in absurd (omega arith)
       by_number f o false z = rw (read_from, o, z, is) refl
 
-      by_form : (o : Option Form) → form_of line ≡ o → read_from n (context_as c) (line ∷ more) tail ≡ refusedSheet number (n + 1)
+      by_form : (o : Option Form) → form_of line ≡ o → read_from n (context_as c) (line ∷ more) tail ≡ refused_sheet number (n + 1)
       by_form none o = rw (read_from, o, is) refl
       by_form (some f) o = by_number f o (eqb (line_refusal (context_as c) line) 0) refl
 

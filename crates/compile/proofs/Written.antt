@@ -6,8 +6,8 @@ use native.Mathlib.Omega.{arith}
 use borrow.Author.Tests.{le-leb}
 use lib.ListN.{length, get_or, take, drop, length-append}
 use lib.Seq.{take-suc, take-add}
-use Rattle.hex.proofs.Puts.{put_nothing, length_put, put_then}
-use Rattle.hex.specs.Hex.{put_at, past_put}
+use Rattle.hex_lines.proofs.Puts.{put_nothing, length_put, put_then}
+use Rattle.hex_lines.specs.Hex.{put_at, past_put}
 use Rattle.plan.proofs.Placing.{text_append, text_snoc}
 use Rattle.plan.specs.Rows.{frame_in}
 use Rattle.plan.specs.Text.{whole_line, plan_text}

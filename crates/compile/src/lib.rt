@@ -1,8 +1,10 @@
 // A sheet compiled to a plan in a lent buffer, or refused with a number and a line.
+#![tactic(auto)]
+
 ghost use Rattle.std.specs.Prelude.{◌≡◌, length, take, drop};
 ghost use Rattle.compile.specs.Answers.{compiled_as, left_in};
-ghost use Rattle.compile.specs.Compiled.{compile as compileOf};
-ghost use Rattle.sheet.specs.Refusals.{too_long as tooLongOf};
+ghost use Rattle.compile.specs.Compiled.{compile as compile_of};
+ghost use Rattle.sheet.specs.Refusals.{too_long as too_long_of};
 
 use frames::places::fresh_rows;
 use plan::{Frame, text};
@@ -23,7 +25,7 @@ pub const TOO_LONG: u64 = 1;
 const NO_ROOM: u64 = 9;
 
 // A refusal: its number, its line or 0, and the bad line's place and length in the sheet.
-#[derive(Drop)]
+#[derive(Clone, Copy)]
 pub struct Refusal {
     pub number: u64,
     pub line: usize,
@@ -32,7 +34,7 @@ pub struct Refusal {
 }
 
 // The plan's length, or the refusal.
-#[derive(Drop)]
+#[derive(Clone, Copy)]
 pub enum Compiled {
     Plan(usize),
     Refused(Refusal),
@@ -40,7 +42,7 @@ pub enum Compiled {
 
 // "Sheet over 16,448 bytes or over 64 lines."
 fn too_long(sheet: &[u8]) -> bool
-    ensures { result ≡ tooLongOf sheet.now }
+    ensures { result ≡ too_long_of sheet.now }
 {
     if MOST_BYTES < sheet.len() {
         return true;
@@ -62,8 +64,8 @@ fn whole(number: u64) -> Compiled
 
 // Nothing is written before the whole sheet is taken and its plan fits.
 pub fn compile(sheet: &[u8], plan: &mut [u8]) -> Compiled
-    ensures answer { result ≡ compiled_as (compileOf sheet.now (length plan.old)) }
-    ensures plan { plan.new ≡ left_in plan.old (compileOf sheet.now (length plan.old)) }
+    ensures answer { result ≡ compiled_as (compile_of sheet.now (length plan.old)) }
+    ensures plan { plan.new ≡ left_in plan.old (compile_of sheet.now (length plan.old)) }
 {
     if too_long(sheet) {
         return whole(TOO_LONG);

@@ -15,7 +15,7 @@ const NO_END: u64 = line::BYTES;
 const EMPTY: u64 = line::PLACE;
 
 // The number of frames and the bytes of their plan lines, or the first bad line.
-#[derive(Drop)]
+#[derive(Clone, Copy)]
 pub(crate) enum Gathered {
     Is(usize, usize),
     Refused(Refusal),

@@ -10,7 +10,7 @@ use plan::{Frame, text};
 use zone::{Transition, limits};
 
 // What the lines so far leave: what stands before the next one, how many lines were read, how many rows are filled, and the bytes of their plan lines.
-#[derive(Drop)]
+#[derive(Clone, Copy)]
 pub(crate) struct State {
     pub context: Context,
     pub lines: usize,
@@ -18,7 +18,7 @@ pub(crate) struct State {
     pub bytes: usize,
 }
 
-#[derive(Drop)]
+#[derive(Clone, Copy)]
 pub(crate) enum Stepped {
     Is(State),
     Refused(u64),

@@ -1,6 +1,6 @@
 // Frames as the lines of a plan, then the end frame.
 ghost use Rattle.std.specs.Prelude.{[], ◌∷◌, ◌++◌, ◌≡◌, ◌≤◌, length};
-ghost use Rattle.hex.specs.Hex.{put_at};
+ghost use Rattle.hex_lines.specs.Hex.{put_at};
 ghost use Rattle.plan.specs.Text.{plan_text};
 ghost use Rattle.plan.specs.declared.Frame.{Frame};
 ghost use Rattle.compile.specs.Answers.{frames_in};

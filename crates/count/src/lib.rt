@@ -1,4 +1,6 @@
 // The COUNT-th day that one cron or rule frame holds: a month is passed by its number of held days.
+#![tactic(auto)]
+
 ghost use Rattle.std.specs.Prelude.{◌≡◌, ◌-◌, ◌/◌, ◌≤◌};
 ghost use Rattle.days.specs.Search.{nth_day};
 ghost use Rattle.frames.specs.Months.{day_of, InMonth};

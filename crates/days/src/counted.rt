@@ -12,7 +12,7 @@ use calendar::window;
 use frames::places::Row;
 use frames::{kinds, places};
 
-#[derive(Drop)]
+#[derive(Clone, Copy)]
 pub(crate) enum Periods {
     Days,
     Weeks,

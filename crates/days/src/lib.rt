@@ -1,4 +1,6 @@
 // The local days that one cron or rule frame holds: the least and the last of a range.
+#![tactic(auto)]
+
 mod back;
 mod counted;
 mod parts;

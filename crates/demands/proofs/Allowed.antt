@@ -11,7 +11,7 @@ use Rattle.compile.specs.Compiled.{compiled_text}
 use Rattle.framed.specs.Framed.{frame_of}
 use Rattle.plan.proofs.Loading.{written_plan}
 use Rattle.plan.specs.Allowed.{allowed_from, frames_allowed}
-use Rattle.plan.specs.Taken.{Before as Standing, taken as takenFrames, frame_good, place, number_good, is_end, load}
+use Rattle.plan.specs.Taken.{Before as Standing, taken as taken_frames, frame_good, place, number_good, is_end, load}
 use Rattle.sheet.specs.Form.{Time, Shift, Form, zone, change, cron, rule, extra, except}
 use Rattle.sheet.specs.Place.{Before, start, zoned, lines, after}
 use Rattle.sheet.specs.Refusals.{Context, context_after, taken, read_sheet, first}
@@ -74,10 +74,10 @@ unfolding frames_allowed
 frames_allowed_lem [] t = absurd (omega (arith, t.least))
 frames_allowed_lem (f ∷ fs) t = lines_allowed fs 0 first f (omega (arith, t.most)) t.each.0 t.each.1
 
-pub compiled_taken : (text : List ℕ) (fs : List Form) → read_sheet text ≡ taken fs → load (compiled_text fs) ≡ takenFrames (map frame_of fs)
+pub compiled_taken : (text : List ℕ) (fs : List Form) → read_sheet text ≡ taken fs → load (compiled_text fs) ≡ taken_frames (map frame_of fs)
 unfolding compiled_text
 compiled_taken text fs e =
     rw (compiled_frames_lem fs, ← length-map fs frame_of) (written_plan (map frame_of fs) (frames_allowed_lem fs (taken_sheet text fs e)))
 
-pub plan_taken : (text p : List ℕ) (s : Source text p) → load p ≡ takenFrames (map frame_of s.forms)
+pub plan_taken : (text p : List ℕ) (s : Source text p) → load p ≡ taken_frames (map frame_of s.forms)
 plan_taken text p s = ap load s.written ∙ compiled_taken text s.forms s.sheet

@@ -14,7 +14,7 @@ use Rattle.framed.proofs.Goods.{Good, given_passes}
 use Rattle.framed.proofs.Listed.{listed}
 use Rattle.framed.proofs.Ordinals.{ordinal_ends, entry_good, entries_limit}
 use Rattle.framed.proofs.Sets.{Framed, ordinals_for, positions_for, power_limits}
-use Rattle.framed.specs.Framed.{is_plain, is_ordinal as isOrdinalOf, ordinals_of, month_mask, weekdays_of, days_or, days_of, months_of}
+use Rattle.framed.specs.Framed.{is_plain, is_ordinal as is_ordinal_of, ordinals_of, month_mask, weekdays_of, days_or, days_of, months_of}
 use Rattle.frames.specs.Rule.{no_limit}
 use Rattle.frames.specs.declared.Rule.{Rule}
 use Rattle.good.proofs.Goods.{daily_good, weekly_good, monthly_good, yearly_good}
@@ -29,14 +29,14 @@ use Rattle.demands.proofs.MaskGoods.{not_zero}
 
 -- without an ordinal in the list there is none in the frame
 module _ (minus : Bool) where
-  no_entry : (k w : ℕ) (es : List Entry) → any_of is_ordinal es ≡ false → any_of (isOrdinalOf minus k w) es ≡ false
+  no_entry : (k w : ℕ) (es : List Entry) → any_of is_ordinal es ≡ false → any_of (is_ordinal_of minus k w) es ≡ false
   no_entry k w [] e = refl
   no_entry k w (plain v ∷ es) e = no_entry k w es e
   no_entry k w (ordinal n v ∷ es) e = absurd (false≢true (sym e))
 
   module _ (es : List Entry) (e : any_of is_ordinal es ≡ false) where
-    no_mask : (k : ℕ) → mask_from (λ w. any_of (isOrdinalOf minus k w) es) 7 0 ≡ 0
-    no_mask k = mask_none (λ w. any_of (isOrdinalOf minus k w) es) 7 0 (λ w l h. no_entry k w es e)
+    no_mask : (k : ℕ) → mask_from (λ w. any_of (is_ordinal_of minus k w) es) 7 0 ≡ 0
+    no_mask k = mask_none (λ w. any_of (is_ordinal_of minus k w) es) 7 0 (λ w l h. no_entry k w es e)
 
     no_group : ordinals_of minus es ≡ 0
     unfolding ordinals_of

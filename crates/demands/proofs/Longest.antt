@@ -9,7 +9,7 @@ use Rattle.compile.proofs.Compiling.{compiled_length}
 use Rattle.compile.specs.Compiled.{plan, compile, compiled_text}
 use Rattle.framed.proofs.Lines.{taken}
 use Rattle.framed.specs.Framed.{frame_of}
-use Rattle.hex.specs.Hex.{hex_of}
+use Rattle.hex_lines.specs.Hex.{hex_of}
 use Rattle.plan.proofs.Placing.{whole_length, line_short, text_cons}
 use Rattle.plan.specs.Text.{frame_line, whole_line, plan_text}
 use Rattle.plan.specs.declared.Frame.{Frame}

@@ -5,7 +5,7 @@ use mathlib.Core.Path.{◌≡◌, refl}
 use Prim.Native.Nat.{ℕ}
 use Rattle.framed.proofs.Lines.{taken}
 use Rattle.framed.specs.Framed.{frame_of}
-use Rattle.plan.specs.Taken.{Before as Standing, start as bare, zoned as zonedBy, lines as others, place}
+use Rattle.plan.specs.Taken.{Before as Standing, start as bare, zoned as zoned_by, lines as others, place}
 use Rattle.sheet.specs.Form.{Form, zone, change, cron, rule, extra, except}
 use Rattle.sheet.specs.Place.{Before, start, zoned, lines, in_place}
 use Rattle.sheet.specs.Refusals.{Context, context_after, limits_kept, form_refusal}
@@ -13,7 +13,7 @@ use Rattle.sheet.specs.Refusals.{Context, context_after, limits_kept, form_refus
 -- what the lines before a line leave, as the load check has it of their frames
 abbrev standing_of : Before → ℕ → ℕ → Standing
 standing_of start low offset = bare
-standing_of (zoned k) low offset = zonedBy k low offset
+standing_of (zoned k) low offset = zoned_by k low offset
 standing_of lines low offset = others
 
 abbrev pub standing : Context → Standing

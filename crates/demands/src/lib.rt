@@ -1,1 +1,2 @@
 // Laws alone: demand 3, and that every compiled plan is taken.
+#![tactic(auto)]

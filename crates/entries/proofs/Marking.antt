@@ -20,7 +20,7 @@ use Rattle.masks.proofs.Bits.{bit_of_quotient, bit_of_rest}
 use Rattle.masks.proofs.MaskFroms.{mask_from_same, mask_from_below, bit_in_mask, bit_above_mask, own_mask}
 use Rattle.masks.specs.Masks.{bit, mask_from}
 use Rattle.sheet.specs.Form.{Entry, plain, ordinal}
-use Rattle.sheet.specs.Parts.{is_ordinal as hasOrdinal}
+use Rattle.sheet.specs.Parts.{is_ordinal as has_ordinal}
 use Rattle.sheet.specs.Range.{entry_in_range}
 use Rattle.sheet.specs.Words.{Signed}
 use Rattle.words.specs.Lists.{over_all}
@@ -148,7 +148,7 @@ entry_step : (m : Weekdays) (x : Entry) → weekday_written x ≡ true → take_
     ≡ record {
       given = m.given;
       good = m.good && entry_in_range x;
-      ordinal = m.ordinal || hasOrdinal x;
+      ordinal = m.ordinal || has_ordinal x;
       plain = set_one m.plain (plain_place x);
       front = set_one m.front (ordinal_place false x);
       back = set_one m.back (ordinal_place true x);
@@ -178,7 +178,7 @@ entries_over : (m : Weekdays) (es : List Entry) → all_of weekday_written es �
     ≡ record {
       given = m.given;
       good = m.good && all_of entry_in_range es;
-      ordinal = m.ordinal || any_of hasOrdinal es;
+      ordinal = m.ordinal || any_of has_ordinal es;
       plain = set_all plain_place m.plain es;
       front = set_all (ordinal_place false) m.front es;
       back = set_all (ordinal_place true) m.back es;
@@ -191,7 +191,7 @@ entries_over m (x ∷ es) a =
     ∙ rw (
       entry_step m x w.0,
       and_assoc m.good (entry_in_range x) (all_of entry_in_range es),
-      or_assoc m.ordinal (hasOrdinal x) (any_of hasOrdinal es),
+      or_assoc m.ordinal (has_ordinal x) (any_of has_ordinal es),
     ) refl
 
 plain_between : (x : Entry) → Between 0 7 (plain_place x)

@@ -6,7 +6,7 @@ use Rattle.framed.specs.Framed.{ends_of, is_plain, ordinals_of, month_mask}
 use Rattle.lines.specs.Bytes.{byte}
 use Rattle.masks.specs.Masks.{mask_from}
 use Rattle.sheet.specs.Form.{Entry, plain, ordinal, weekday_words}
-use Rattle.sheet.specs.Parts.{is_ordinal as hasOrdinal}
+use Rattle.sheet.specs.Parts.{is_ordinal as has_ordinal}
 use Rattle.sheet.specs.Range.{entry_in_range, day_number_in_range, month_in_range}
 use Rattle.sheet.specs.Words.{Signed}
 use Rattle.words.specs.Answers.{made_read, number_read, signed_read, one_at}
@@ -61,7 +61,7 @@ weekdays_given es =
     record {
       given = true;
       good = all_of entry_in_range es;
-      ordinal = any_of hasOrdinal es;
+      ordinal = any_of has_ordinal es;
       plain = mask_from (λ w. any_of (is_plain w) es) 7 0;
       front = ordinals_of false es;
       back = ordinals_of true es;

@@ -8,7 +8,7 @@ use words::choice::Named;
 use words::cursor::{Cursor, Signed};
 
 // A weekday, or an ordinal by its sign and number and a weekday, and the place after it.
-#[derive(Drop)]
+#[derive(Clone, Copy)]
 pub(crate) enum Entry {
     Plain(u64, Cursor),
     Ordinal(bool, u64, u64, Cursor),

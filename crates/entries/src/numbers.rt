@@ -11,7 +11,7 @@ const MOST_DAY: u64 = 31;
 const MOST_MONTH: u64 = 12;
 
 // Bit n of the front for n, of the back for −n.
-#[derive(Drop)]
+#[derive(Clone, Copy)]
 pub struct Numbers {
     pub given: bool,
     pub good: bool,
@@ -19,7 +19,7 @@ pub struct Numbers {
     pub back: u64,
 }
 
-#[derive(Drop)]
+#[derive(Clone, Copy)]
 pub enum Listed {
     Is(Numbers, Cursor),
     Not,

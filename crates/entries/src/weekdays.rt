@@ -10,7 +10,7 @@ use words::cursor::{COMMA, Cursor};
 const MOST_ORDINAL: u64 = 5;
 
 // The weekdays without an ordinal as a mask, those with one as five of a byte each, from the front and from the end.
-#[derive(Drop)]
+#[derive(Clone, Copy)]
 pub struct Weekdays {
     pub given: bool,
     pub good: bool,
@@ -21,7 +21,7 @@ pub struct Weekdays {
     pub back: u64,
 }
 
-#[derive(Drop)]
+#[derive(Clone, Copy)]
 pub enum Days {
     Is(Weekdays, Cursor),
     Not,

@@ -13,7 +13,7 @@ use Rattle.compile.specs.Compiled.{Compiled, plan as made, refusal}
 use Rattle.load.specs.Loads.{loaded_as}
 use Rattle.next.proofs.Ready.{taken_good, plan_instants_range}
 use Rattle.next.specs.Instants.{Next, Previous, NextOf, PreviousOf}
-use Rattle.next.specs.Plans.{AnswerBy, NextIn, PreviousIn, answer_of, found_of, local_in, local_of, local_by as localInside, offset_in, offset_by as offsetInside}
+use Rattle.next.specs.Plans.{AnswerBy, NextIn, PreviousIn, answer_of, found_of, local_in, local_of, local_by as local_inside, offset_in, offset_by as offset_inside}
 use Rattle.next.specs.declared.Answer.{Answer}
 use Rattle.plan.specs.Plan.{PlanInstant, plan_zone}
 use Rattle.plan.specs.Taken.{Loaded, taken, refused, load, loaded_number, loaded_line}
@@ -102,8 +102,8 @@ unfolding PreviousIn PreviousAnswer
 previous_edge plan asked a = previous_by (load plan) (taken_good plan) asked a
 
 -- a local minute: the first past the window is outside, as the negative ones that it stands for
-local_by_lem : (l : Loaded) (z : ℤ) → local_as (localInside l (minute_of z)) ≡ local_by l z
-unfolding localInside local_by instant_of_local
+local_by_lem : (l : Loaded) (z : ℤ) → local_as (local_inside l (minute_of z)) ≡ local_by l z
+unfolding local_inside local_by instant_of_local
 local_by_lem (taken fs) (pos m) = by_instant (instant_of_local (plan_zone fs) m)
   where
     by_instant : (i : Instant) → local_as (local_of (answer_of (found_of i))) ≡ local_found i
@@ -133,8 +133,8 @@ signed_offset_lem z low before offset (t ∷ ts) g =
     by_test false rest = rest offset
 
 offset_by_lem : (l : Loaded) → ((fs : List Frame) → l ≡ taken fs → zone_good (plan_zone fs) ≡ true) → (z : ℤ)
-    → offset_as (offsetInside l (bias_instant z)) ≡ offset_by l z
-unfolding offsetInside offset_by offset_at unbias_instant
+    → offset_as (offset_inside l (bias_instant z)) ≡ offset_by l z
+unfolding offset_inside offset_by offset_at unbias_instant
 offset_by_lem (taken fs) good z =
     let g = good_zone (plan_zone fs) (good fs refl) in
     let o = (plan_zone fs).first in

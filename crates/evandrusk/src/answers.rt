@@ -13,14 +13,14 @@ use load::Loaded;
 use next::{Answer, Local, Offset};
 
 #[repr(C)]
-#[derive(Drop)]
+#[derive(Clone, Copy)]
 pub struct EvkDay {
     pub number: u64,
     pub day: i64,
 }
 
 #[repr(C)]
-#[derive(Drop)]
+#[derive(Clone, Copy)]
 pub struct EvkDate {
     pub number: u64,
     pub year: i64,
@@ -29,7 +29,7 @@ pub struct EvkDate {
 }
 
 #[repr(C)]
-#[derive(Drop)]
+#[derive(Clone, Copy)]
 pub struct EvkIso {
     pub number: u64,
     pub year: i64,
@@ -38,14 +38,14 @@ pub struct EvkIso {
 }
 
 #[repr(C)]
-#[derive(Drop)]
+#[derive(Clone, Copy)]
 pub struct EvkChecked {
     pub number: u64,
     pub line: u64,
 }
 
 #[repr(C)]
-#[derive(Drop)]
+#[derive(Clone, Copy)]
 pub struct EvkFound {
     pub number: u64,
     pub line: u64,
@@ -53,7 +53,7 @@ pub struct EvkFound {
 }
 
 #[repr(C)]
-#[derive(Drop)]
+#[derive(Clone, Copy)]
 pub struct EvkOffset {
     pub number: u64,
     pub line: u64,
@@ -61,7 +61,7 @@ pub struct EvkOffset {
 }
 
 #[repr(C)]
-#[derive(Drop)]
+#[derive(Clone, Copy)]
 pub struct EvkCompiled {
     pub number: u64,
     pub line: u64,

@@ -1,7 +1,9 @@
-// The functions that C calls, and nothing else: numbers and lent bytes in, one call, a struct out. include/evandrusk.h declares them.
+// The functions that C calls, by evandrusk_c, and nothing else: numbers and lent bytes in, one call, a struct out.
+#![tactic(auto)]
+
 ghost use Rattle.std.specs.Prelude.{◌≡◌, length};
 ghost use Rattle.compile.specs.Answers.{left_in};
-ghost use Rattle.compile.specs.Compiled.{compile as compileOf};
+ghost use Rattle.compile.specs.Compiled.{compile as compile_of};
 ghost use Rattle.evandrusk.specs.Answers.{day_of_date_answer, date_of_day_answer, iso_of_day_answer, day_of_iso_answer};
 ghost use Rattle.evandrusk.specs.Plans.{check_answer, NextAnswer, PreviousAnswer, local_answer, offset_answer};
 ghost use Rattle.evandrusk.specs.Sheets.{compile_answer};
@@ -11,8 +13,7 @@ use calendar::{date, iso};
 
 pub mod answers;
 
-#[unsafe(no_mangle)]
-pub extern "C" fn evk_day_of_date(year: i64, month: i64, day: i64) -> EvkDay
+pub fn evk_day_of_date(year: i64, month: i64, day: i64) -> EvkDay
     ensures { result ≡ day_of_date_answer year month day }
 {
     let found = date::day_of_date(
@@ -23,22 +24,19 @@ pub extern "C" fn evk_day_of_date(year: i64, month: i64, day: i64) -> EvkDay
     answers::day(found)
 }
 
-#[unsafe(no_mangle)]
-pub extern "C" fn evk_date_of_day(day: i64) -> EvkDate
+pub fn evk_date_of_day(day: i64) -> EvkDate
     ensures { result ≡ date_of_day_answer day }
 {
     answers::date(date::date_of_day(signed::bias_day(day)))
 }
 
-#[unsafe(no_mangle)]
-pub extern "C" fn evk_iso_of_day(day: i64) -> EvkIso
+pub fn evk_iso_of_day(day: i64) -> EvkIso
     ensures { result ≡ iso_of_day_answer day }
 {
     answers::iso(iso::iso_of_day(signed::bias_day(day)))
 }
 
-#[unsafe(no_mangle)]
-pub extern "C" fn evk_day_of_iso(year: i64, week: i64, weekday: i64) -> EvkDay
+pub fn evk_day_of_iso(year: i64, week: i64, weekday: i64) -> EvkDay
     ensures { result ≡ day_of_iso_answer year week weekday }
 {
     let found = iso::day_of_iso(
@@ -49,44 +47,38 @@ pub extern "C" fn evk_day_of_iso(year: i64, week: i64, weekday: i64) -> EvkDay
     answers::day(found)
 }
 
-#[unsafe(no_mangle)]
-pub extern "C" fn evk_compile(sheet: &[u8], plan: &mut [u8]) -> EvkCompiled
-    ensures answer { result ≡ compile_answer (compileOf sheet.now (length plan.old)) }
-    ensures plan { plan.new ≡ left_in plan.old (compileOf sheet.now (length plan.old)) }
+pub fn evk_compile(sheet: &[u8], plan: &mut [u8]) -> EvkCompiled
+    ensures answer { result ≡ compile_answer (compile_of sheet.now (length plan.old)) }
+    ensures plan { plan.new ≡ left_in plan.old (compile_of sheet.now (length plan.old)) }
 {
     answers::compiled(compile::compile(sheet, plan))
 }
 
-#[unsafe(no_mangle)]
-pub extern "C" fn evk_check(plan: &[u8]) -> EvkChecked
+pub fn evk_check(plan: &[u8]) -> EvkChecked
     ensures { result ≡ check_answer plan.now }
 {
     answers::checked(load::check(plan))
 }
 
-#[unsafe(no_mangle)]
-pub extern "C" fn evk_next(plan: &[u8], instant: i64) -> EvkFound
+pub fn evk_next(plan: &[u8], instant: i64) -> EvkFound
     ensures { NextAnswer plan.now instant result }
 {
     answers::found(next::next(plan, signed::bias_instant(instant)))
 }
 
-#[unsafe(no_mangle)]
-pub extern "C" fn evk_previous(plan: &[u8], instant: i64) -> EvkFound
+pub fn evk_previous(plan: &[u8], instant: i64) -> EvkFound
     ensures { PreviousAnswer plan.now instant result }
 {
     answers::found(next::previous(plan, signed::bias_instant(instant)))
 }
 
-#[unsafe(no_mangle)]
-pub extern "C" fn evk_instant_of_local(plan: &[u8], local_minute: i64) -> EvkFound
+pub fn evk_instant_of_local(plan: &[u8], local_minute: i64) -> EvkFound
     ensures { result ≡ local_answer plan.now local_minute }
 {
     answers::local(next::instant_of_local(plan, answers::minute_of(local_minute)))
 }
 
-#[unsafe(no_mangle)]
-pub extern "C" fn evk_offset_at(plan: &[u8], instant: i64) -> EvkOffset
+pub fn evk_offset_at(plan: &[u8], instant: i64) -> EvkOffset
     ensures { result ≡ offset_answer plan.now instant }
 {
     answers::offset(next::offset_at(plan, signed::bias_instant(instant)))

@@ -128,31 +128,49 @@ module _ (s : List ℕ) (low high : ℕ) (before : Bool) (at : ℕ) where
 
 -- ---- the five, one after the other: the first that is none, or all
 module _ (s : List ℕ) (at : ℕ) where
+  -- what is read after a field and its space: after four, after three, after two and after one
+  abbrev after : (Form → ℕ → Option (Line × ℕ)) → ℕ → Option (Line × ℕ)
+  after more e = then_at 32 s more (field_read s e)
+
+  abbrev by_four : Form → Form → Form → Form → ℕ → Option (Line × ℕ)
+  by_four m h d mo e = made_read (cron m h d mo) (field_read s e)
+
+  abbrev by_three : Form → Form → Form → ℕ → Option (Line × ℕ)
+  by_three m h d = after (by_four m h d)
+
+  abbrev by_two : Form → Form → ℕ → Option (Line × ℕ)
+  by_two m h = after (by_three m h)
+
+  abbrev by_one : Form → ℕ → Option (Line × ℕ)
+  by_one m = after (by_two m)
+
   pub no_minute : NoneAt s at → Five.Not ≡ five_as (cron_read s at)
   unfolding cron_read five_as
-  no_minute n = sym (ap five_as (n _))
+  no_minute n = sym (ap five_as (n by_one))
 
   module _ {minutes : ℕ} {f₁ g₁ : Bool} {c₁ : Cursor} (m : Spaced s 0 59 true at minutes f₁ g₁ c₁) where
     pub no_hour : NoneAt s c₁.at → Five.Not ≡ five_as (cron_read s at)
     unfolding cron_read five_as
-    no_hour n = sym (ap five_as (m.read _ ∙ n _))
+    no_hour n = sym (ap five_as (m.read by_one ∙ n (by_two m.form)))
 
     module _ {hours : ℕ} {f₂ g₂ : Bool} {c₂ : Cursor} (h : Spaced s 0 23 g₁ c₁.at hours f₂ g₂ c₂) where
       pub no_day : NoneAt s c₂.at → Five.Not ≡ five_as (cron_read s at)
       unfolding cron_read five_as
-      no_day n = sym (ap five_as (m.read _ ∙ h.read _ ∙ n _))
+      no_day n = sym (ap five_as (m.read by_one ∙ h.read (by_two m.form) ∙ n (by_three m.form h.form)))
 
       module _ {days : ℕ} {f₃ g₃ : Bool} {c₃ : Cursor} (d : Spaced s 1 31 g₂ c₂.at days f₃ g₃ c₃) where
         pub no_month : NoneAt s c₃.at → Five.Not ≡ five_as (cron_read s at)
         unfolding cron_read five_as
-        no_month n = sym (ap five_as (m.read _ ∙ h.read _ ∙ d.read _ ∙ n _))
+        no_month n =
+            sym
+            (ap five_as (m.read by_one ∙ h.read (by_two m.form) ∙ d.read (by_three m.form h.form) ∙ n (by_four m.form h.form d.form)))
 
         module _ {months : ℕ} {f₄ g₄ : Bool} {c₄ : Cursor} (mo : Spaced s 1 12 g₃ c₃.at months f₄ g₄ c₄) where
           pub no_weekday : field_read s c₄.at ≡ none → Five.Not ≡ five_as (cron_read s at)
           unfolding cron_read five_as
           no_weekday n =
               sym
-              (ap five_as (m.read _ ∙ h.read _ ∙ d.read _ ∙ mo.read _ ∙ ap (made_read (cron m.form h.form d.form mo.form)) n))
+              (ap five_as (m.read by_one ∙ h.read (by_two m.form) ∙ d.read (by_three m.form h.form) ∙ mo.read (by_four m.form h.form d.form) ∙ ap (made_read (cron m.form h.form d.form mo.form)) n))
 
           module _ {weekdays : ℕ} {f₅ g₅ : Bool} {c₅ : Cursor} (w : Last s 0 6 g₄ c₄.at weekdays f₅ g₅ c₅) where
             abbrev line : Line
@@ -161,7 +179,7 @@ module _ (s : List ℕ) (at : ℕ) where
             all_read : cron_read s at ≡ some (line, c₅.at)
             unfolding cron_read
             all_read =
-                m.read _ ∙ h.read _ ∙ d.read _ ∙ mo.read _ ∙ ap (made_read (cron m.form h.form d.form mo.form)) w.read
+                m.read by_one ∙ h.read (by_two m.form) ∙ d.read (by_three m.form h.form) ∙ mo.read (by_four m.form h.form d.form) ∙ ap (made_read (cron m.form h.form d.form mo.form)) w.read
 
             all_inside : g₅ ≡ in_range line
             unfolding in_range

@@ -7,7 +7,7 @@ use words::cursor::{Cursor, Number};
 const DASH: u8 = 45;
 
 // One number or both ends of a range, and the place after it.
-#[derive(Drop)]
+#[derive(Clone, Copy)]
 pub enum Element {
     One(u64, Cursor),
     Range(u64, u64, Cursor),

@@ -8,7 +8,7 @@ use words::cursor::Cursor;
 
 const STAR: u8 = 42;
 
-#[derive(Drop)]
+#[derive(Clone, Copy)]
 pub enum Field {
     // The numbers as a mask, whether the field is restricted, and the place after it.
     Is(u64, bool, Cursor),
@@ -39,7 +39,7 @@ fn field_over(s: &[u8], c: Cursor, low: u64, high: u64) -> Field
     Field::Is(marks.mask, true, next)
 }
 
-#[derive(Drop)]
+#[derive(Clone, Copy)]
 pub struct Minute {}
 
 impl Minute {
@@ -54,7 +54,7 @@ impl Minute {
     }
 }
 
-#[derive(Drop)]
+#[derive(Clone, Copy)]
 pub struct Hour {}
 
 impl Hour {
@@ -69,7 +69,7 @@ impl Hour {
     }
 }
 
-#[derive(Drop)]
+#[derive(Clone, Copy)]
 pub struct DayOfMonth {}
 
 impl DayOfMonth {
@@ -84,7 +84,7 @@ impl DayOfMonth {
     }
 }
 
-#[derive(Drop)]
+#[derive(Clone, Copy)]
 pub struct Month {}
 
 impl Month {
@@ -99,7 +99,7 @@ impl Month {
     }
 }
 
-#[derive(Drop)]
+#[derive(Clone, Copy)]
 pub struct DayOfWeek {}
 
 impl DayOfWeek {

@@ -7,14 +7,14 @@ use frames::{Cron, kinds};
 use words::cursor::{Cursor, SPACE};
 
 // The frame of five fields and the place after them; a number out of range, once all five are of the form; or no five fields.
-#[derive(Drop)]
+#[derive(Clone, Copy)]
 pub enum Five {
     Is(Cron, Cursor),
     Outside(Cursor),
     Not,
 }
 
-#[derive(Drop)]
+#[derive(Clone, Copy)]
 enum Step {
     // A field's mask, whether it is restricted, whether every number up to its end is in range, and where to read on.
     Is(u64, bool, bool, Cursor),

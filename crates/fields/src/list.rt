@@ -7,7 +7,7 @@ use crate::marks::{Marks, mark};
 use words::cursor::{COMMA, Cursor};
 
 // What was marked and the place after it, or that a list is none.
-#[derive(Drop)]
+#[derive(Clone, Copy)]
 pub(crate) enum Listed {
     Is(Marks, Cursor),
     Not,
@@ -29,7 +29,7 @@ fn element_marks(m: Marks, low: u64, high: u64, x: Element) -> Listed
 // All that is passed is a word and so is the answer, so the call is a jump: a list takes no stack for an element.
 fn rest_from(t: &&[u8], at: usize, low: u64, high: u64, mask: &mut u64, good: &mut bool) -> usize
     requires { (high ≤ 62) × (length t.now.now < 2 ^ 64) }
-    ensures { (left : ℕ) → length t.now.now - at < left → ended_as (record { mask = mask.exit.now; good = good.new }) result ≡ listed_as low high (record { mask = mask.entry.now; good = good.old }) (elements_at t.now.now left at) }
+    ensures { (left : ℕ) → length t.now.now - at < left → ended_as (record { mask = mask.new; good = good.new }) result ≡ listed_as low high (record { mask = mask.old; good = good.old }) (elements_at t.now.now left at) }
 {
     let s = *t;
     let m = Marks {

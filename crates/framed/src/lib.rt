@@ -1,1 +1,2 @@
 // The frame of a sheet line.
+#![tactic(auto)]

@@ -38,7 +38,7 @@ fn day_count(g: &Row, k: u64) -> u64
 }
 
 // How many months were counted, and their counts.
-#[derive(Drop)]
+#[derive(Clone, Copy)]
 struct Reached {
     months: u64,
     counts: u64,

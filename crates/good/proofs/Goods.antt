@@ -6,7 +6,7 @@ use mathlib.Core.Path.{◌≡◌, refl, sym, ◌∙◌}
 use Prim.Native.Nat.{ℕ, ◌+◌, ◌/◌, ◌%◌, ◌<◌}
 use native.Mathlib.Decide.{ℕ_discrete}
 use native.Mathlib.Nat.{div-one, mod-one}
-use borrow.Author.Tests.{eq-eqb, ne_eqb, not-true, not-false}
+use borrow.Author.Tests.{eq-eqb, ne_eqb}
 use lib.Dec.{ltb, eqb}
 use Rattle.days.proofs.Answers.{this_day, not_this_day}
 use Rattle.frames.specs.Numbers.{day_held}
@@ -18,11 +18,11 @@ use Rattle.plan.specs.Taken.{only_bits, ordinals_good, any_day, frequency_good}
 use Rattle.plan.specs.declared.Frame.{Frame}
 
 -- a test a, whose answer r let the code stop or go on
-pub stopped : {r a : Bool} → r ≡ a → not r ≡ true → a ≡ false
-stopped {r} e n = sym e ∙ not-true r n
+pub stopped : {r a : Bool} → r ≡ a → r ≡ false → a ≡ false
+stopped e n = sym e ∙ n
 
-pub passed : {r a : Bool} → r ≡ a → not r ≡ false → a ≡ true
-passed {r} e n = sym e ∙ not-false r n
+pub passed : {r a : Bool} → r ≡ a → r ≡ true → a ≡ true
+passed e n = sym e ∙ n
 
 -- a weekday mask has no bit above 6 exactly if it is below 128
 weekday_bits : (m : ℕ) → only_bits 0 6 m ≡ ltb m 128

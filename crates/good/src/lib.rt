@@ -1,4 +1,6 @@
 // A frame by itself: whether its numbers are ones that a plan may have.
+#![tactic(auto)]
+
 ghost use Rattle.std.specs.Prelude.{◌≡◌};
 ghost use Rattle.plan.specs.Taken.{frame_good};
 

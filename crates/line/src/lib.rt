@@ -1,4 +1,6 @@
 // A sheet line with what stands before it: its frame, or the lowest of 2 to 8 that applies.
+#![tactic(auto)]
+
 ghost use Rattle.std.specs.Prelude.{◌≡◌, ◌≤◌, length, get_or, drop};
 ghost use Rattle.sheet.specs.Form.{tagged};
 ghost use Rattle.line.specs.Lined.{context_as, lined_form, lined};
@@ -40,7 +42,7 @@ const LETTER_X: u8 = 88;
 const LETTER_Z: u8 = 90;
 
 // What stands before a line: nothing, a Z and so many T, or more.
-#[derive(Drop)]
+#[derive(Clone, Copy)]
 pub enum Before {
     Start,
     Zoned(u64),
@@ -48,14 +50,14 @@ pub enum Before {
 }
 
 // With it, the least instant of a next transition and the offset before it, both moved up by a day.
-#[derive(Drop)]
+#[derive(Clone, Copy)]
 pub struct Context {
     pub before: Before,
     pub low: u64,
     pub offset: u64,
 }
 
-#[derive(Drop)]
+#[derive(Clone, Copy)]
 pub enum Lined {
     Is(Frame),
     Refused(u64),

@@ -4,7 +4,7 @@ ghost use Rattle.std.proofs.Math.Option.{some};
 ghost use Rattle.framed.proofs.Goods.{written};
 ghost use Rattle.lines.specs.Bytes.{byte};
 ghost use Rattle.parts.specs.Given.{parts_given};
-ghost use Rattle.sheet.specs.Form.{Part, field_of, cron_of, rule as ruleForm, rule_of};
+ghost use Rattle.sheet.specs.Form.{Part, field_of, cron_of, rule as rule_form, rule_of};
 ghost use Rattle.sheet.specs.Words.{pieces, each_of};
 ghost use Rattle.words.specs.Answers.{time_as};
 ghost use Rattle.line.specs.Lined.{context_as, lined_form, standing};
@@ -46,7 +46,7 @@ pub(crate) fn cron_line(line: &[u8], c: Context) -> Lined
 
 // A rule of the form: where it may stand, its numbers, its parts together, its start.
 fn rule(t: Time, p: Parts, c: Context) -> Lined
-    ensures { (ps : List Part) → p ≡ parts_given ps → written (ruleForm (time_as t) ps) ≡ true → result ≡ lined_form (context_as c) (some (ruleForm (time_as t) ps)) }
+    ensures { (ps : List Part) → p ≡ parts_given ps → written (rule_form (time_as t) ps) ≡ true → result ≡ lined_form (context_as c) (some (rule_form (time_as t) ps)) }
 {
     let before = c.before;
     if !places::other_stands(before) {

@@ -2,7 +2,7 @@
 ghost use Rattle.std.proofs.Math.Option.{some};
 ghost use Rattle.std.specs.Prelude.{◌≡◌, ◌≤◌, length, drop};
 ghost use Rattle.lines.specs.Bytes.{byte};
-ghost use Rattle.sheet.specs.Form.{zone as zoneForm, change as changeForm, form_by, shift_of, change_of};
+ghost use Rattle.sheet.specs.Form.{zone as zone_form, change as change_form, form_by, shift_of, change_of};
 ghost use Rattle.sheet.specs.Words.{pieces};
 ghost use Rattle.words.specs.Answers.{time_as, shift_as};
 ghost use Rattle.line.specs.Lined.{context_as, lined_form};
@@ -16,7 +16,7 @@ use zone::{Transition, limits};
 // "Offset before the first transition."
 pub(crate) fn zone_line(line: &[u8], c: Context) -> Lined
     requires { 2 ≤ length line.now }
-    ensures { result ≡ lined_form (context_as c) (form_by zoneForm (shift_of (drop 2 line.now))) }
+    ensures { result ≡ lined_form (context_as c) (form_by zone_form (shift_of (drop 2 line.now))) }
 {
     let here = Cursor { at: 2 };
     let Shifted::Is(shift, end) = here.shift(line) else {
@@ -37,7 +37,7 @@ pub(crate) fn zone_line(line: &[u8], c: Context) -> Lined
 
 // A transition of the form: where it may stand, its numbers, then the limits.
 fn change(t: Time, s: Shift, c: Context) -> Lined
-    ensures { result ≡ lined_form (context_as c) (some (changeForm (time_as t) (shift_as s))) }
+    ensures { result ≡ lined_form (context_as c) (some (change_form (time_as t) (shift_as s))) }
 {
     let before = c.before;
     if !places::change_stands(before) {

@@ -1,4 +1,6 @@
 // A text as lines.
+#![tactic(auto)]
+
 ghost use Rattle.std.specs.Prelude.{◌≡◌};
 ghost use Rattle.lines.specs.Lines.{line_end, begun_by, lines_in};
 

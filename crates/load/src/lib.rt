@@ -1,4 +1,6 @@
 // The load check: whether a plan is taken, and its frames as rows of numbers.
+#![tactic(auto)]
+
 ghost use Rattle.std.specs.Prelude.{map, ◌≡◌, ◌≤◌};
 ghost use Rattle.std.proofs.lemmas.List.Edits.{sets};
 ghost use Rattle.plan.specs.Rows.{row_of};
@@ -15,7 +17,7 @@ pub mod offsets;
 mod place;
 
 // A plan that is taken, with its number of frames, or the line that is not allowed.
-#[derive(Drop)]
+#[derive(Clone, Copy)]
 pub enum Loaded {
     Taken(usize),
     Refused(usize),

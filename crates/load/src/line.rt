@@ -1,6 +1,6 @@
 // One line of a plan where it stands.
 ghost use Rattle.std.specs.Prelude.{true, false, ◌≡◌, ◌<◌};
-ghost use Rattle.plan.specs.Taken.{number_good, is_end, allowed as allowedAt};
+ghost use Rattle.plan.specs.Taken.{number_good, is_end, allowed as allowed_at};
 ghost use Rattle.load.specs.Loads.{before_of, allowed_of};
 
 use crate::place;
@@ -10,14 +10,14 @@ use plan::text::Line;
 use plan::{Frame, text};
 
 // A frame, and what then stands before the next line.
-#[derive(Drop)]
+#[derive(Clone, Copy)]
 pub(crate) struct Step {
     pub frame: Frame,
     pub before: Before,
 }
 
 // A line that is allowed, or not.
-#[derive(Drop)]
+#[derive(Clone, Copy)]
 pub(crate) enum Allowed {
     Is(Step),
     Not,
@@ -54,7 +54,7 @@ pub(crate) fn is_end(frame: Frame) -> bool
 
 // A line after n frames.
 pub(crate) fn allow(n: usize, before: Before, line: &[u8]) -> Allowed
-    ensures { allowed_of result ≡ allowedAt n (before_of before) line.now }
+    ensures { allowed_of result ≡ allowed_at n (before_of before) line.now }
 {
     let Line::Is(frame) = text::read(line) else {
         return Allowed::Not;

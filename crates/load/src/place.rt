@@ -1,7 +1,7 @@
 // Where a frame may stand: 01 first, then up to 32 of 02 under the zone limits, then others.
 ghost use Rattle.std.specs.Prelude.{true, ◌≡◌, ◌+◌, ◌≤◌};
 ghost use Rattle.calendar.specs.Window.{window_last};
-ghost use Rattle.plan.specs.Taken.{start, zoned as zonedAt, lines as linesAt, frame_good, place as place_of};
+ghost use Rattle.plan.specs.Taken.{start, zoned as zoned_at, lines as lines_at, frame_good, place as place_of};
 ghost use Rattle.plan.specs.declared.Frame.{Frame};
 ghost use Rattle.zone.specs.Zone.{bias};
 ghost use Rattle.load.specs.Loads.{before_of, placed_of};
@@ -10,7 +10,7 @@ use plan::Frame;
 use zone::{CHANGES, Transition, limits};
 
 // The transitions so far, the least instant that the next may have, and the offset after them.
-#[derive(Drop)]
+#[derive(Clone, Copy)]
 pub(crate) struct Edge {
     pub changes: usize,
     pub low: u64,
@@ -18,7 +18,7 @@ pub(crate) struct Edge {
 }
 
 // What stands before a line: nothing, a zone, or more than that.
-#[derive(Drop)]
+#[derive(Clone, Copy)]
 pub(crate) enum Before {
     Start,
     Zoned(Edge),
@@ -26,7 +26,7 @@ pub(crate) enum Before {
 }
 
 // What stands before the next line, or that the frame may not stand here.
-#[derive(Drop)]
+#[derive(Clone, Copy)]
 pub(crate) enum Placed {
     Is(Before),
     Not,
@@ -53,7 +53,7 @@ fn first(frame: Frame) -> Placed
 // One transition more.
 fn change(edge: Edge, t: Transition) -> Placed
     requires { t.at ≤ bias + window_last }
-    ensures { placed_of result ≡ place_of (zonedAt edge.changes edge.low edge.offset) (Frame.Change t) }
+    ensures { placed_of result ≡ place_of (zoned_at edge.changes edge.low edge.offset) (Frame.Change t) }
 {
     if CHANGES <= edge.changes {
         return Placed::Not;
@@ -71,7 +71,7 @@ fn change(edge: Edge, t: Transition) -> Placed
 // After a zone.
 fn zoned(edge: Edge, frame: Frame) -> Placed
     requires { frame_good frame ≡ true }
-    ensures { placed_of result ≡ place_of (zonedAt edge.changes edge.low edge.offset) frame }
+    ensures { placed_of result ≡ place_of (zoned_at edge.changes edge.low edge.offset) frame }
 {
     match frame {
         Frame::Offset(_) => Placed::Not,
@@ -86,7 +86,7 @@ fn zoned(edge: Edge, frame: Frame) -> Placed
 
 // After other lines.
 fn after(frame: Frame) -> Placed
-    ensures { placed_of result ≡ place_of linesAt frame }
+    ensures { placed_of result ≡ place_of lines_at frame }
 {
     match frame {
         Frame::Offset(_) => Placed::Not,

@@ -1,1 +1,2 @@
 // The marked cases: nothing to run.
+#![tactic(auto)]

@@ -1,4 +1,6 @@
 // Bits of a mask: bit n stands for n.
+#![tactic(auto)]
+
 ghost use Rattle.std.specs.Prelude.{◌≡◌};
 ghost use Rattle.masks.specs.Masks.{bit, with_bit, next_bit, previous_bit, bits_from};
 

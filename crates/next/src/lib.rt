@@ -1,4 +1,6 @@
 // Next and previous of a plan, and the instant of a local minute and the offset at an instant by its zone.
+#![tactic(auto)]
+
 ghost use Rattle.std.specs.Prelude.{true, ◌≡◌};
 ghost use Rattle.held.specs.Lists.{list_held, first_of};
 ghost use Rattle.load.specs.Zones.{zone_of};
@@ -18,7 +20,7 @@ mod instants;
 mod stretches;
 
 // What a plan is asked: its next or previous instant, the instant of a local minute, or the offset at an instant.
-#[derive(Drop)]
+#[derive(Clone, Copy)]
 pub(crate) enum Ask {
     Next(u64),
     Previous(u64),
@@ -27,14 +29,14 @@ pub(crate) enum Ask {
 }
 
 // The instant or the offset that is asked for, or that there is none.
-#[derive(Drop)]
+#[derive(Clone, Copy)]
 pub enum Found {
     Is(u64),
     Never,
 }
 
 // The same of a plan, or the line at which it is not taken.
-#[derive(Drop)]
+#[derive(Clone, Copy)]
 pub enum Answer {
     Is(u64),
     Never,
@@ -42,7 +44,7 @@ pub enum Answer {
 }
 
 // The instant of a local minute, that it is outside the window, or that line.
-#[derive(Drop)]
+#[derive(Clone, Copy)]
 pub enum Local {
     Is(u64),
     Outside,
@@ -50,7 +52,7 @@ pub enum Local {
 }
 
 // The offset at an instant, or that line.
-#[derive(Drop)]
+#[derive(Clone, Copy)]
 pub enum Offset {
     Is(u64),
     Refused(usize),

@@ -14,7 +14,7 @@ const MOST_INTERVAL: u64 = 999;
 
 const MOST_COUNT: u64 = 9999;
 
-#[derive(Drop)]
+#[derive(Clone, Copy)]
 pub struct Value {
     pub given: bool,
     pub number: u64,
@@ -29,7 +29,7 @@ fn stated(number: u64) -> Value
     }
 }
 
-#[derive(Drop)]
+#[derive(Clone, Copy)]
 pub struct Parts {
     // Bit k: the part with the document's k-th name was read.
     pub names: u64,
@@ -47,7 +47,7 @@ pub struct Parts {
     pub months: Numbers,
 }
 
-#[derive(Drop)]
+#[derive(Clone, Copy)]
 pub enum Given {
     Is(Parts, Cursor),
     Not,

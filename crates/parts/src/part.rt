@@ -26,7 +26,7 @@ pub(crate) const BYSETPOS: u64 = 6;
 
 pub(crate) const BYMONTH: u64 = 7;
 
-#[derive(Drop)]
+#[derive(Clone, Copy)]
 pub(crate) enum Part {
     // 1 daily, 2 weekly, 3 monthly, 4 yearly.
     Frequency(u64),
@@ -40,7 +40,7 @@ pub(crate) enum Part {
     Months(Numbers),
 }
 
-#[derive(Drop)]
+#[derive(Clone, Copy)]
 pub(crate) enum Parted {
     Is(Part, Cursor),
     Not,

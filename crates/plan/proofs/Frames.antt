@@ -11,9 +11,9 @@ use lib.ListN.{length, get_or}
 use Rattle.calendar.specs.Below.{all_of}
 use Rattle.frames.specs.declared.Cron.{Cron}
 use Rattle.frames.specs.declared.Rule.{Rule}
-use Rattle.hex.proofs.Fields.{hexes, widths, total, valued, all_bytes, length_all, fields_spell, read_and_written, written_and_read}
-use Rattle.hex.proofs.Numbers.{number_is_field, number_fits}
-use Rattle.hex.specs.Hex.{Field, fits, line_bytes, field}
+use Rattle.hex_lines.proofs.Fields.{hexes, widths, total, valued, all_bytes, length_all, fields_spell, read_and_written, written_and_read}
+use Rattle.hex_lines.proofs.Numbers.{number_is_field, number_fits}
+use Rattle.hex_lines.specs.Hex.{Field, fits, line_bytes, field}
 use Rattle.zone.specs.declared.Transition.{Transition}
 use Rattle.plan.specs.Fits.{frame_fields, frame_fits}
 use Rattle.plan.specs.Text.{moved, frame_line, moved_up, cron_from, rule_from, change_from, frame_from, bytes_frame, line_frame}
@@ -167,7 +167,9 @@ module _ (line bytes : List ℕ) (e : line_bytes line ≡ some bytes) where
   -- the line by fields of these widths, the kind known
   by_widths : (k n : ℕ) (ks : List ℕ) → total (1 ∷ ks) ≡ n → (eqb (field bytes 0 1) k && eqb (length bytes) n) ≡ true
       → hexes ((1, k) ∷ valued (field bytes) 1 ks) ≡ line
-  by_widths k n ks s t = rw (kind_of k n t) at (read_and_written (1 ∷ ks) line bytes e (s ∙ size_of k n t))
+  by_widths k n ks s t =
+      let r : hexes ((1, field bytes 0 1) ∷ valued (field bytes) 1 ks) ≡ line = read_and_written (1 ∷ ks) line bytes e (s ∙ size_of k n t) in
+      rw (kind_of k n t) at r
 
   is_offset : (eqb (field bytes 0 1) 1 && eqb (length bytes) 3) ≡ true → frame_line (Frame.Offset (moved_up (field bytes) 1 2)) ≡ line
   unfolding frame_line

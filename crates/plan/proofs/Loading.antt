@@ -11,9 +11,9 @@ use lib.Dec.{eqb}
 use lib.ListN.{length}
 use Rattle.calendar.proofs.Every.{both_true}
 use Rattle.calendar.specs.Below.{all_of}
-use Rattle.hex.proofs.Digits.{no_line_end}
-use Rattle.hex.proofs.Spelt.{is_some, spells_some}
-use Rattle.hex.specs.Hex.{is_digit, spells}
+use Rattle.hex_lines.proofs.Digits.{no_line_end}
+use Rattle.hex_lines.proofs.Spelt.{is_some, spells_some}
+use Rattle.hex_lines.specs.Hex.{is_digit, spells}
 use Rattle.lines.proofs.Joined.{joined, lines_joined}
 use Rattle.lines.specs.Lines.{lines_of}
 use Rattle.plan.specs.Allowed.{allowed_from, frames_allowed}

@@ -7,9 +7,9 @@ use native.Mathlib.Numerals.{add-one}
 use native.Mathlib.Omega.{arith}
 use lib.ListN.{length, get_or, set, length-append}
 use Rattle.frames.specs.Kinds.{row_numbers}
-use Rattle.hex.proofs.Fields.{hexes, widths, total}
-use Rattle.hex.proofs.Puts.{length_put, put_then, set_is_put}
-use Rattle.hex.specs.Hex.{Field, hex_of, put_at}
+use Rattle.hex_lines.proofs.Fields.{hexes, widths, total}
+use Rattle.hex_lines.proofs.Puts.{length_put, put_then, set_is_put}
+use Rattle.hex_lines.specs.Hex.{Field, hex_of, put_at}
 use Rattle.plan.specs.Fits.{frame_fields, frame_widths, pairs_from, pairs_at}
 use Rattle.plan.specs.Rows.{row_of}
 use Rattle.plan.specs.Text.{moved, moved_frame, frame_line, whole_line, plan_text}

@@ -8,9 +8,9 @@ use native.Mathlib.Omega.{arith}
 use borrow.Author.Tests.{eqb-true}
 use lib.Dec.{eqb}
 use lib.ListN.{length}
-use Rattle.hex.proofs.Numbers.{two_digits, number_is_field, number_outside}
-use Rattle.hex.proofs.Spelt.{is_some, spells_some}
-use Rattle.hex.specs.Hex.{line_bytes, spells, bytes_number, field, number_at}
+use Rattle.hex_lines.proofs.Numbers.{two_digits, number_is_field, number_outside}
+use Rattle.hex_lines.proofs.Spelt.{is_some, spells_some}
+use Rattle.hex_lines.specs.Hex.{line_bytes, spells, bytes_number, field, number_at}
 use Rattle.plan.specs.Read.{line_of, line_read}
 use Rattle.plan.specs.Text.{cron_from, rule_from, frame_from, bytes_frame, line_frame}
 use Rattle.plan.specs.declared.Frame.{Frame}

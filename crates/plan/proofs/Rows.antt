@@ -5,7 +5,7 @@ use mathlib.Core.Path.{◌≡◌, refl}
 use Prim.Native.Nat.{ℕ}
 use Rattle.calendar.proofs.Every.{same_either_way}
 use Rattle.calendar.specs.Below.{any_of}
-use Rattle.held.specs.Lists.{any_held, any_excepts, list_held, frame_excepts as rowExcepts}
+use Rattle.held.specs.Lists.{any_held, any_excepts, list_held, frame_excepts as excepts_row}
 use Rattle.held.specs.Minutes.{frame_held}
 use Rattle.frames.specs.declared.Cron.{Cron}
 use Rattle.frames.specs.declared.Rule.{Rule}
@@ -34,8 +34,8 @@ row_held (Frame.Extra e) m = same_either_way m e
 row_held (Frame.Excepted e) m = refl
 row_held (Frame.End n) m = refl
 
-pub row_excepts : (f : Frame) (m : ℕ) → rowExcepts (row_of f) m ≡ frame_excepts m f
-unfolding row_of rowExcepts frame_excepts
+pub row_excepts : (f : Frame) (m : ℕ) → excepts_row (row_of f) m ≡ frame_excepts m f
+unfolding row_of excepts_row frame_excepts
 row_excepts (Frame.Offset o) m = refl
 row_excepts (Frame.Change t) m = refl
 row_excepts (Frame.Cron f) m = refl

@@ -1,7 +1,7 @@
 -- The fields of a frame, each with the bytes that the plan's table gives it.
 use Rattle.std.specs.Prelude.{Bool, List, [], ◌∷◌, map, ℕ, zero, suc, ◌-◌, get_or}
 use Rattle.calendar.specs.Below.{all_of}
-use Rattle.hex.specs.Hex.{Field, fits}
+use Rattle.hex_lines.specs.Hex.{Field, fits}
 use Rattle.plan.specs.Rows.{as_row}
 use Rattle.frames.specs.Kinds.{row_numbers}
 use Rattle.plan.specs.declared.Frame.{Frame}

@@ -1,7 +1,7 @@
 -- Opens every definition of the crate and of those below it at once, for the files that compute them.
 use Rattle.calendar.specs.Open.{opened as calendar-opened}
 use Rattle.lines.specs.Open.{opened as lines-opened}
-use Rattle.hex.specs.Open.{opened as hex-opened}
+use Rattle.hex_lines.specs.Open.{opened as hex-opened}
 use Rattle.zone.specs.Open.{opened as zone-opened}
 use Rattle.days.specs.Open.{opened as days-opened}
 use Rattle.plan.specs.Allowed.{allowed_from, frames_allowed}

@@ -4,7 +4,7 @@ use Rattle.std.proofs.Math.Option.{Option, none, some}
 use Rattle.frames.specs.declared.Cron.{Cron}
 use Rattle.frames.specs.declared.Ends.{Ends}
 use Rattle.frames.specs.declared.Rule.{Rule}
-use Rattle.hex.specs.Hex.{hex_of, line_bytes, field}
+use Rattle.hex_lines.specs.Hex.{hex_of, line_bytes, field}
 use Rattle.zone.specs.declared.Transition.{Transition}
 use Rattle.frames.specs.Kinds.{offset_kind, change_kind, cron_kind, rule_kind, extra_kind, excepted_kind, end_kind}
 use Rattle.zone.specs.Zone.{bias}

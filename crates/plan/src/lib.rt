@@ -1,4 +1,6 @@
 // A plan: frames as numbers.
+#![tactic(auto)]
+
 use frames::{Cron, Rule};
 use zone::Transition;
 
@@ -6,7 +8,7 @@ mod puts;
 pub mod text;
 
 // One line of a plan. Offsets, instants and local minutes are those of the inside.
-#[derive(Drop)]
+#[derive(Clone, Copy)]
 pub enum Frame {
     Offset(u64),
     Change(Transition),

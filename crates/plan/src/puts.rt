@@ -1,7 +1,7 @@
 // A frame's line as numbers, each with its bytes, and these put into a buffer.
 ghost use Rattle.std.specs.Prelude.{◌≡◌, ◌+◌, ◌*◌, ◌≤◌, length};
-ghost use Rattle.hex.proofs.Fields.{hexes, widths, total};
-ghost use Rattle.hex.specs.Hex.{put_at};
+ghost use Rattle.hex_lines.proofs.Fields.{hexes, widths, total};
+ghost use Rattle.hex_lines.specs.Hex.{put_at};
 ghost use Rattle.plan.specs.Fits.{frame_widths, pairs_at};
 ghost use Rattle.plan.specs.Text.{moved, moved_frame, frame_line};
 
@@ -88,7 +88,7 @@ pub(crate) fn put_row(buf: &mut [u8], at: usize, sizes: &[usize; NUMBERS], row: 
     let mut i = 0;
     while i < NUMBERS {
         let k = sizes[i];
-        hex::put(buf, place, k, row[i]);
+        hex_lines::put(buf, place, k, row[i]);
         place = place + 2 * k;
         i = i + 1;
     }

@@ -1,6 +1,6 @@
 // A plan's lines as frames, and frames as rows of numbers.
 ghost use Rattle.std.specs.Prelude.{◌≡◌, [], ◌∷◌, ◌+◌, ◌/◌, ◌≤◌, length};
-ghost use Rattle.hex.specs.Hex.{number_at, put_at, past_put};
+ghost use Rattle.hex_lines.specs.Hex.{number_at, put_at, past_put};
 ghost use Rattle.plan.specs.Read.{line_of, line_read};
 ghost use Rattle.plan.specs.Rows.{as_row, row_of, frame_in};
 ghost use Rattle.plan.specs.Text.{whole_line, moved_up, change_from, cron_from, ends_from, rule_from, frame_from};
@@ -12,7 +12,7 @@ use frames::{Cron, Ends, Rule, kinds, numbers, places};
 use zone::Transition;
 
 // What a line is read as.
-#[derive(Drop)]
+#[derive(Clone, Copy)]
 pub enum Line {
     Is(Frame),
     Not,
@@ -22,25 +22,25 @@ pub enum Line {
 fn offset_at(line: &[u8], at: usize) -> u64
     ensures { result ≡ moved_up (number_at line.now) at 2 }
 {
-    (hex::number(line, at, 2) + zone::BIAS) % puts::TWO_BYTES
+    (hex_lines::number(line, at, 2) + zone::BIAS) % puts::TWO_BYTES
 }
 
 fn instant_at(line: &[u8], at: usize) -> u64
     ensures { result ≡ moved_up (number_at line.now) at 4 }
 {
-    (hex::number(line, at, 4) + zone::BIAS) % puts::FOUR_BYTES
+    (hex_lines::number(line, at, 4) + zone::BIAS) % puts::FOUR_BYTES
 }
 
 fn cron_of(line: &[u8]) -> Cron
     ensures { result ≡ cron_from (number_at line.now) }
 {
     Cron {
-        minutes: hex::number(line, 1, 8),
-        hours: hex::number(line, 9, 4),
-        days: hex::number(line, 13, 4),
-        months: hex::number(line, 17, 2),
-        weekdays: hex::number(line, 19, 1),
-        flags: hex::number(line, 20, 1),
+        minutes: hex_lines::number(line, 1, 8),
+        hours: hex_lines::number(line, 9, 4),
+        days: hex_lines::number(line, 13, 4),
+        months: hex_lines::number(line, 17, 2),
+        weekdays: hex_lines::number(line, 19, 1),
+        flags: hex_lines::number(line, 20, 1),
     }
 }
 
@@ -49,8 +49,8 @@ fn ends_at(line: &[u8], at: usize, k: usize) -> Ends
     ensures { result ≡ ends_from (number_at line.now) at k }
 {
     Ends {
-        front: hex::number(line, at, k),
-        back: hex::number(line, at + k, k),
+        front: hex_lines::number(line, at, k),
+        back: hex_lines::number(line, at + k, k),
     }
 }
 
@@ -58,15 +58,15 @@ fn rule_of(line: &[u8]) -> Rule
     ensures { result ≡ rule_from (number_at line.now) }
 {
     Rule {
-        frequency: hex::number(line, 1, 1),
-        interval: hex::number(line, 2, 2),
-        start: hex::number(line, 4, 4),
-        last: hex::number(line, 8, 4),
-        weekdays: hex::number(line, 12, 1),
+        frequency: hex_lines::number(line, 1, 1),
+        interval: hex_lines::number(line, 2, 2),
+        start: hex_lines::number(line, 4, 4),
+        last: hex_lines::number(line, 8, 4),
+        weekdays: hex_lines::number(line, 12, 1),
         days: ends_at(line, 13, 4),
         ordinals: ends_at(line, 21, 5),
         positions: ends_at(line, 31, 4),
-        months: hex::number(line, 39, 2),
+        months: hex_lines::number(line, 39, 2),
     }
 }
 
@@ -83,7 +83,7 @@ fn change_of(line: &[u8]) -> Transition
 fn frame_of(line: &[u8]) -> Line
     ensures { result ≡ line_of (frame_from (number_at line.now) (length line.now / 2)) }
 {
-    let kind = hex::number(line, 0, 1);
+    let kind = hex_lines::number(line, 0, 1);
     let n = line.len() / 2;
     if both(kind == kinds::OFFSET, n == 3) {
         return Line::Is(Frame::Offset(offset_at(line, 1)));
@@ -98,13 +98,13 @@ fn frame_of(line: &[u8]) -> Line
         return Line::Is(Frame::Rule(rule_of(line)));
     }
     if both(kind == kinds::EXTRA, n == 5) {
-        return Line::Is(Frame::Extra(hex::number(line, 1, 4)));
+        return Line::Is(Frame::Extra(hex_lines::number(line, 1, 4)));
     }
     if both(kind == kinds::EXCEPTED, n == 5) {
-        return Line::Is(Frame::Excepted(hex::number(line, 1, 4)));
+        return Line::Is(Frame::Excepted(hex_lines::number(line, 1, 4)));
     }
     if both(kind == kinds::END, n == 2) {
-        return Line::Is(Frame::End(hex::number(line, 1, 1)));
+        return Line::Is(Frame::End(hex_lines::number(line, 1, 1)));
     }
     Line::Not
 }
@@ -113,7 +113,7 @@ fn frame_of(line: &[u8]) -> Line
 pub fn read(line: &[u8]) -> Line
     ensures { result ≡ line_read line.now }
 {
-    if hex::is_line(line) {
+    if hex_lines::is_line(line) {
         return frame_of(line);
     }
     Line::Not

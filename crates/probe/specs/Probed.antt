@@ -1,6 +1,6 @@
 -- Answers as numbers, for the comparison with the reference.
 use Rattle.std.specs.Prelude.{cond, List, ℕ, eqb}
-use Rattle.hex.specs.Hex.{put_at, past_put}
+use Rattle.hex_lines.specs.Hex.{put_at, past_put}
 use Rattle.line.specs.declared.Before.{Before}
 use Rattle.line.specs.declared.Context.{Context}
 use Rattle.line.specs.declared.Lined.{Lined}

@@ -1,4 +1,6 @@
 // Test entries for the comparison with the reference; no part of the public header.
+#![tactic(auto)]
+
 ghost use Rattle.std.specs.Prelude.{◌≡◌};
 ghost use Rattle.zone.specs.Zone.{offset_at};
 ghost use Rattle.zone.specs.Held.{offsets_of};
@@ -15,7 +17,7 @@ use zone::stretch::Instant;
 use zone::{Zone, stretch};
 
 #[repr(C)]
-#[derive(Drop)]
+#[derive(Clone, Copy)]
 pub struct ProbeInstant {
     pub number: u64,
     pub instant: u64,
@@ -67,7 +69,7 @@ pub extern "C" fn probe_nth_day(f: &Row, count: u64, low: u64) -> u64
 }
 
 #[repr(C)]
-#[derive(Drop)]
+#[derive(Clone, Copy)]
 pub struct ProbeLine {
     pub number: u64,
     pub length: u64,

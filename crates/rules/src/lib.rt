@@ -1,4 +1,6 @@
 // A rule's frame from its parts in numbers and its start.
+#![tactic(auto)]
+
 ghost use Rattle.std.specs.Prelude.{◌≡◌};
 ghost use Rattle.rules.specs.Ruled.{neither_in, by_frequency_in, together_in, start_held_in, ruled_from};
 
@@ -10,7 +12,7 @@ use parts::given::Parts;
 mod frame;
 mod last;
 
-#[derive(Drop)]
+#[derive(Clone, Copy)]
 pub enum Ruled {
     Is(Rule),
     // Refusal 6.

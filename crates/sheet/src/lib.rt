@@ -1,1 +1,2 @@
 // Sheet lines.
+#![tactic(auto)]

@@ -1,5 +1,7 @@
 // The signed edge: what C hands in becomes a natural, and what it gets back a signed number. Nothing above this crate has a sign
 // but the exported functions.
+#![tactic(auto)]
+
 ghost use Rattle.std.specs.Prelude.{◌≡◌};
 ghost use Rattle.signed.specs.Bias.{natural_of, whole_of, bias_day, unbias_day, bias_instant, unbias_instant};
 

@@ -5,7 +5,7 @@ ghost use Rattle.words.specs.Answers.{or_word};
 use crate::cursor::{Cursor, Worded};
 
 // A word's place in the document's list, and the place after it.
-#[derive(Drop)]
+#[derive(Clone, Copy)]
 pub enum Named {
     Is(u64, Cursor),
     Not,

@@ -16,34 +16,34 @@ pub const COMMA: u8 = 44;
 
 pub const SEMICOLON: u8 = 59;
 
-#[derive(Drop)]
+#[derive(Clone, Copy)]
 pub struct Cursor {
     pub at: usize,
 }
 
 // A number of 1 to 4 digits.
-#[derive(Drop)]
+#[derive(Clone, Copy)]
 pub enum Number {
     Is(u64, Cursor),
     Not,
 }
 
 // `+` and no sign are the same.
-#[derive(Drop)]
+#[derive(Clone, Copy)]
 pub struct Sign {
     pub minus: bool,
     pub next: Cursor,
 }
 
 // A number with a sign or none.
-#[derive(Drop)]
+#[derive(Clone, Copy)]
 pub enum Signed {
     Is(bool, u64, Cursor),
     Not,
 }
 
 // `YYYYMMDDTHHMM` or `YYYYMMDDTHHMMSS`, whatever its numbers; seconds that are not written are 0.
-#[derive(Drop)]
+#[derive(Clone, Copy)]
 pub struct Time {
     pub year: u64,
     pub month: u64,
@@ -53,28 +53,28 @@ pub struct Time {
     pub second: u64,
 }
 
-#[derive(Drop)]
+#[derive(Clone, Copy)]
 pub enum Timed {
     Is(Time, Cursor),
     Not,
 }
 
 // A sign and `HHMM`, whatever its numbers.
-#[derive(Drop)]
+#[derive(Clone, Copy)]
 pub struct Shift {
     pub minus: bool,
     pub hours: u64,
     pub minutes: u64,
 }
 
-#[derive(Drop)]
+#[derive(Clone, Copy)]
 pub enum Shifted {
     Is(Shift, Cursor),
     Not,
 }
 
 // The place after a word.
-#[derive(Drop)]
+#[derive(Clone, Copy)]
 pub enum Worded {
     Is(Cursor),
     Not,

@@ -23,7 +23,7 @@ const MOST_AHEAD: u64 = 840;
 
 const HOURS_PAST: u64 = 15;
 
-#[derive(Drop)]
+#[derive(Clone, Copy)]
 pub enum Minute {
     Is(u64),
     Outside,
@@ -51,7 +51,7 @@ pub fn local_minute(t: Time) -> Minute
     Minute::Is(window::DAY * (day - window::FIRST_DAY) + (HOUR * t.hour + t.minute))
 }
 
-#[derive(Drop)]
+#[derive(Clone, Copy)]
 pub enum Offset {
     Is(u64),
     Outside,

@@ -3,7 +3,7 @@ use mathlib.Core.List.{List, [], ◌∷◌, ◌++◌}
 use mathlib.Core.Path.{◌≡◌, refl, sym, ap, ◌∙◌}
 use Prim.Native.Nat.{ℕ, zero, suc, ◌+◌, ◌-◌, ◌<◌, ◌≤◌, min}
 use native.Mathlib.Omega.{arith}
-use lib.ListN.{length, get_or, take, drop, length-map, length-take, drop_of_length-le}
+use lib.ListN.{length, get_or, take, drop, length-take, drop_of_length-le}
 use lib.Seq.{take_all, take-suc, take-take, get_or-take}
 use denote.Laws.{Is}
 use denote.Struct.Declared.{row}
@@ -47,7 +47,7 @@ take_both k n l =
 
 module _ (z : Zone) (passed : Passed z) where
   pub whole : length z.changes ≡ 32
-  whole = sym (length-map z.changes _) ∙ passed.1.1.1.1.0.1.0.1
+  whole = passed.1.1.1.1.0.1.0.1
 
   pub held_length : length (offsets_of z).changes ≡ min z.count 32
   unfolding offsets_of

@@ -5,5 +5,3 @@ pub mod Stretches
 pub mod Shown
 pub mod Held
 pub mod Over
-pub mod Lending
-pub mod Walking

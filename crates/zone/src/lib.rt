@@ -1,4 +1,6 @@
 // Wall clock and instants.
+#![tactic(auto)]
+
 ghost use Rattle.std.specs.Prelude.{◌≡◌};
 ghost use Rattle.zone.specs.Zone.{offset_at};
 ghost use Rattle.zone.specs.Held.{offsets_of};
@@ -17,7 +19,7 @@ pub const CHANGES: usize = 32;
 
 // From instant `at` on the offset is `offset`.
 #[repr(C)]
-#[derive(Drop)]
+#[derive(Clone, Copy)]
 pub struct Transition {
     pub at: u64,
     pub offset: u64,
@@ -25,7 +27,7 @@ pub struct Transition {
 
 // The offset before the first transition, and the transitions: the first `count` of `changes`.
 #[repr(C)]
-#[derive(Drop)]
+#[derive(Clone, Copy)]
 pub struct Zone {
     pub first: u64,
     pub count: usize,

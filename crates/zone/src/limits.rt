@@ -1,6 +1,6 @@
 // What transitions are held to: instants of the window, offsets in range, and the limits of one after another.
 ghost use Rattle.std.specs.Prelude.{◌≡◌};
-ghost use Rattle.zone.specs.Zone.{apart as apartBy, offset_in_range, in_range, under_limits};
+ghost use Rattle.zone.specs.Zone.{apart as apart_by, offset_in_range, in_range, under_limits};
 
 use crate::Transition;
 use calendar::num::lies_within;
@@ -20,7 +20,7 @@ const MOST_CHANGE: u64 = 180;
 
 // How far apart two offsets are.
 fn apart(a: u64, b: u64) -> u64
-    ensures { result ≡ apartBy a b }
+    ensures { result ≡ apart_by a b }
 {
     if a < b { b - a } else { a - b }
 }

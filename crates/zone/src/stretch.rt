@@ -13,7 +13,7 @@ use calendar::window;
 const END_SUM: u64 = window::MINUTES + BIASES;
 
 // The instant of a local minute, or that it is outside the window.
-#[derive(Drop)]
+#[derive(Clone, Copy)]
 pub enum Instant {
     Is(u64),
     Outside,

@@ -1,0 +1,17 @@
+-- The words one after the other.
+use Rattle.words.proofs.Named.{or_words, or_words_lem}
+use Rattle.sheet.specs.Form.{weekday_words}
+use Rattle.entries.proofs.entry.weekday_at.Goals as goal
+
+pub returns : goal.returns
+unfolding or_words weekday_words
+returns c =
+    rw (
+      c.or_word-n-7.ensures,
+      c.or_word-n-6.ensures,
+      c.or_word-n-5.ensures,
+      c.or_word-n-4.ensures,
+      c.or_word-n-3.ensures,
+      c.or_word-n-2.ensures,
+      c.or_word-n.ensures,
+    ) (or_words_lem _ _ weekday_words)

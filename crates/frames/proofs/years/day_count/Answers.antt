@@ -1,0 +1,8 @@
+-- Of a daily frame without positions a month's set is its day set, and its bits are the days of it.
+use mathlib.Core.Path.{◌∙◌}
+use Rattle.frames.proofs.YearSets.{bare_set, count_of_set}
+use Rattle.frames.proofs.years.day_count.Goals as goal
+
+pub returns : goal.returns
+returns c = let s = c in
+    c.count_from.ensures ∙ rw (c.month_set.ensures, bare_set s.args.g.now s.requires.1 s.args.k) (count_of_set _ _ s.requires.0)
