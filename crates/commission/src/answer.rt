@@ -58,16 +58,21 @@ fn answer(sheet: &[u8], more: &[u8], out: &mut [u8]) -> usize
 }
 
 // Standard output is handed the answer of the sheet that was read, and nothing else.
-fn send<W: Write>(output: &mut W, sheet: &[u8], more: &[u8], text: &[u8]) -> bool
+fn send<W: Write>(output: &mut W, sheet: &[u8], more: &[u8], text: &[u8]) -> std::io::Result<()>
     requires { text.now ≡ answer_of (compile_of (sheet.now ++ more.now) 16448) }
 {
-    output.write_all(text).is_ok()
+    output.write_all(text)
 }
 
-pub(crate) fn give<W: Write>(output: &mut W, sheet: &[u8], more: &[u8], plan: &mut [u8])
+pub(crate) fn give<W: Write>(
+    output: &mut W,
+    sheet: &[u8],
+    more: &[u8],
+    plan: &mut [u8],
+) -> std::io::Result<()>
     requires value { 16448 ≡ length plan.old }
     requires in_bounds { 0 < length more.now → 16448 ≤ length sheet.now }
 {
     let length = answer(sheet, more, plan);
-    send(output, sheet, more, &plan[..length]);
+    send(output, sheet, more, &plan[..length])
 }
