@@ -165,7 +165,7 @@ static const struct plan_case {
     int64_t instant;
     uint64_t most; /* instructions allowed, 0 for no limit */
 } plan_cases[PLAN_CASES] = {
-    {"example", EXAMPLE, 13799520, 0, 13799610, 5000},
+    {"example", EXAMPLE, 13799520, 0, 13799610, 5250},
     {"full plan, 31 lines under 32 transitions", FULL_PLAN, 13799520, 0, 13799610, 250000},
     {"full plan, 31 rules with a position under 32 transitions",
      YEARS_OF_SUMMER WORKDAYS WORKDAYS WORKDAYS WORKDAYS WORKDAYS WORKDAYS WORKDAY "FF40\n", 13799520, 0, 13804210, 250000},

@@ -22,7 +22,10 @@ fn program(line: &str) -> [String; 3] {
     shell(&format!(
         "true 2>/dev/null 3<&0 || exit 0
         {{ {line}; }} | cat 2>/dev/null
-        [ $? -ne 141 ] || kill -s PIPE $$"
+        [ $? -ne 141 ] || {{
+            echo 'Error: Os {{ code: 32, kind: BrokenPipe, message: \"Broken pipe\" }}' >&2
+            exit 1
+        }}"
     ))
 }
 

@@ -6,6 +6,7 @@ pub mod cases;
 mod run;
 
 use std::fmt;
+use std::io;
 use std::time::Duration;
 
 use crate::compare::Tally;
@@ -55,8 +56,8 @@ pub enum End {
     Signal(i32),
 }
 
-/// The signal for a write into a pipe that nobody reads.
-const BROKEN_PIPE: i32 = 13;
+/// The error of a write into a pipe that nobody reads.
+const BROKEN_PIPE: i32 = 32;
 
 impl fmt::Display for Case {
     fn fmt(&self, to: &mut fmt::Formatter) -> fmt::Result {
@@ -107,22 +108,23 @@ impl Case {
         }
     }
 
-    /// Where a read fails nothing is written. Where writing fails nothing is said of it, and a pipe that nobody reads ends the
-    /// program as it does any other.
+    /// Where a read fails nothing is written. Where writing fails nothing is said of it, but that the error of a pipe that nobody reads
+    /// ends the program: it leaves the signal for that to no one.
     fn wanted(&self) -> Ended {
         let answer = match self.is_read() {
             true => written(&self.sheet).into_bytes(),
             false => Vec::new(),
         };
-        let (end, output) = match self.output {
-            Output::Taken => (End::Status(0), answer),
-            Output::Unread => (End::Signal(BROKEN_PIPE), Vec::new()),
-            Output::Full | Output::Closed => (End::Status(0), Vec::new()),
+        let error = io::Error::from_raw_os_error(BROKEN_PIPE);
+        let (status, output, errors) = match self.output {
+            Output::Taken => (0, answer, String::new()),
+            Output::Unread => (1, Vec::new(), format!("Error: {error:?}\n")),
+            Output::Full | Output::Closed => (0, Vec::new(), String::new()),
         };
         Ended {
-            end,
+            end: End::Status(status),
             output,
-            errors: Vec::new(),
+            errors: errors.into_bytes(),
         }
     }
 }
