@@ -1,4 +1,5 @@
 -- Dates: from a date to its day and back, and from a day to its date and back.
+use Rattle.std.specs.Prelude.{Some}
 use mathlib.Core.Bool.{true, ◌&&◌}
 use mathlib.Core.Path.{◌≡◌, refl, sym, subst}
 use Prim.Native.Nat.{ℕ, ◌+◌, ◌-◌, ◌<◌, ◌≤◌}
@@ -7,11 +8,9 @@ use borrow.Author.Tests.{le-leb, lt-ltb}
 use lib.Dec.{T, leb, leb→le}
 use Rattle.calendar.specs.Below.{within}
 use Rattle.calendar.specs.Calendar.{leap_year, month_length, month_start, day_of, valid_date, day_of_date, year_day, month_day, date_of, date_of_day}
-use Rattle.calendar.specs.declared.date.Dated.{Dated}
-use Rattle.calendar.specs.declared.date.Day.{Day}
 use Rattle.calendar.proofs.Every.{left, right}
 use Rattle.calendar.proofs.Months.{month_ends, month_of_day, InMonth, month_day_holds, month_day_is}
-use Rattle.calendar.proofs.Years.{year_length_lem, year_start_next, year_start_mono, year_start_end, InYear, year_day_holds, year_day_is}
+use Rattle.calendar.proofs.Years.{year_length_lem, year_length_range, year_start_next, year_start_mono, year_start_end, InYear, year_day_holds, year_day_is}
 
 -- what a date of the range is
 pub record Valid (y m d : ℕ) : Type 0 where
@@ -68,6 +67,10 @@ module _ (y m d : ℕ) (v : Valid y m d) where
   unfolding date_of day_of_year
   date_of_day_of_date = rw (← year_day_is (day_of y m d) day_of_date_below in_year, ← month_day_is (leap_year y) day_of_year in_month)
 
+-- a day of a year is one of 366
+pub place_below : (n : ℕ) → n < 3652059 → (year_day n).day < 366
+place_below n h = omega (arith, (year_day_holds n h).short, year_length_range (year_day n).year)
+
 module _ (n : ℕ) (h : n < 3652059) where
   there : InYear n (year_day n)
   there = year_day_holds n h
@@ -84,18 +87,18 @@ module _ (n : ℕ) (h : n < 3652059) where
   unfolding date_of day_of
   day_of_date_of_day = omega (arith, there.whole, month_there.whole)
 
-pub day_of_date_is : (y m d : ℕ) → Valid y m d → day_of_date y m d ≡ Day.Is (day_of y m d)
+pub day_of_date_is : (y m d : ℕ) → Valid y m d → day_of_date y m d ≡ Some (day_of y m d)
 unfolding day_of_date
 day_of_date_is y m d v = simp (is_valid y m d v)
 
 -- date → day → date is the identity on every date of the range
-pub date_day_date : (y m d : ℕ) → valid_date y m d ≡ true → date_of_day (day_of y m d) ≡ Dated.Is (record { year = y; month = m; day = d })
+pub date_day_date : (y m d : ℕ) → valid_date y m d ≡ true → date_of_day (day_of y m d) ≡ Some (record { year = y; month = m; day = d })
 unfolding date_of_day
 date_day_date y m d e =
     let v = valid y m d e in
     simp (lt-ltb _ _ (day_of_date_below y m d v), date_of_day_of_date y m d v)
 
 -- day → date → day is the identity on every day of the range
-pub day_date_day : (n : ℕ) → n < 3652059 → day_of_date (date_of n).year (date_of n).month (date_of n).day ≡ Day.Is n
+pub day_date_day : (n : ℕ) → n < 3652059 → day_of_date (date_of n).year (date_of n).month (date_of n).day ≡ Some n
 unfolding day_of_date
 day_date_day n h = simp (is_valid _ _ _ (date_of_day_valid n h), day_of_date_of_day n h)

@@ -1,11 +1,11 @@
 -- The year of a day by groups of 400, 100 and 4 years: of four centuries, and of four years of a century, the last alone may have a day more.
 use mathlib.Core.Logic.{dite}
-use mathlib.Core.Path.{◌≡◌, ap}
+use mathlib.Core.Path.{◌≡◌, refl, ap}
 use Prim.Native.Nat.{ℕ, ◌+◌, ◌-◌, ◌*◌, ◌/◌, ◌<◌, ◌≤◌}
 use native.Mathlib.Decide.{dec_lt}
 use native.Mathlib.Omega.{arith}
-use Rattle.calendar.specs.Calendar.{year_start}
-use Rattle.calendar.proofs.Years.{year_start_closed, year_start_next, InYear}
+use Rattle.calendar.specs.Calendar.{year_start, year_day}
+use Rattle.calendar.proofs.Years.{year_start_closed, year_start_next, InYear, year_day_is}
 
 -- the groups of 4, 100 and 400 years in c centuries and y years
 fours : (c y : ℕ) → (100 * c + y) / 4 ≡ 25 * c + y / 4
@@ -55,3 +55,8 @@ module _ (n c r y : ℕ) (h : n < 3652059) (p : c ≡ (4 * n + 3) / 146097) (q :
         whole = omega (arith, year_start_grouped c y years_range.0);
         short = omega (arith, year_start_grouped c y years_range.0, before_next_year, year_start_next (100 * c + y + 1) (omega arith));
       }
+
+-- so the groups give the year of a day
+pub year_day_grouped : (n c y : ℕ) → n < 3652059 → c ≡ (4 * n + 3) / 146097 → y ≡ (4 * (n - 146097 * c / 4) + 3) / 1461
+    → record { year = 100 * c + y + 1; day = n - 146097 * c / 4 - 1461 * y / 4 } ≡ year_day n
+year_day_grouped n c y h p q = year_day_is n h (in_year_grouped n c _ y h p refl q)

@@ -1,4 +1,5 @@
 -- ISO weeks: where the years start, the year of a day, from an ISO date to its day and back.
+use Rattle.std.specs.Prelude.{Some}
 use mathlib.Core.Bool.{true, ◌&&◌}
 use mathlib.Core.Logic.{dite}
 use mathlib.Core.Path.{◌≡◌, refl, sym, ap, ◌∙◌, subst}
@@ -10,9 +11,7 @@ use lib.Dec.{T, leb, leb→le, ltb, ltb→lt}
 use Rattle.calendar.specs.Below.{within}
 use Rattle.calendar.specs.Calendar.{month_start, year_start, year_day, day_of, weekday_of}
 use Rattle.calendar.specs.Iso.{monday_of, iso_start, iso_weeks, day_of_week, valid_iso, day_of_iso, iso_year, iso_of, iso_of_day}
-use Rattle.calendar.specs.declared.date.Day.{Day}
 use Rattle.calendar.specs.declared.iso.IsoDate.{IsoDate}
-use Rattle.calendar.specs.declared.iso.IsoDated.{IsoDated}
 use Rattle.calendar.proofs.Every.{left, right}
 use Rattle.calendar.proofs.Years.{year_length_range, year_start_first, year_start_next, year_start_mono, year_start_end, year_day_holds}
 
@@ -41,6 +40,9 @@ iso_start_later y z h l =
       year_start_mono (y + 1) z (omega arith),
     )
 
+pub iso_start_next : (y : ℕ) → 1 ≤ y → iso_start y ≤ iso_start (y + 1)
+iso_start_next y h = omega (arith, iso_start_later y (y + 1) h (omega arith))
+
 pub iso_start_top : (y : ℕ) → y ≤ 10000 → iso_start y ≤ 3652062
 iso_start_top y h = omega (arith, (iso_start_near y).before, year_start_mono y 10000 h, year_start_end)
 
@@ -49,6 +51,15 @@ pub iso_weeks_lem : (y : ℕ) → 1 ≤ y → iso_start (y + 1) ≡ iso_start y 
 unfolding iso_weeks
 iso_weeks_lem y h =
     omega (arith, (iso_start_near y).monday, (iso_start_near (y + 1)).monday, iso_start_later y (y + 1) h (omega arith))
+
+-- there are at most 53
+pub iso_weeks_most : (y : ℕ) → iso_weeks y ≤ 53
+unfolding iso_weeks
+iso_weeks_most y =
+    dite (dec_lt 0 y)
+    (λ (l : 0 < y). omega (arith, (iso_start_near y).after, (iso_start_near (y + 1)).before, year_start_next y l, year_length_range y))
+    (λ (g : 0 < y → ⊥).
+    let e : y + 1 ≡ 1 = omega arith in omega (arith, (iso_start_near (y + 1)).before, ap year_start e, year_start_first))
 
 -- what the ISO year of a day is
 pub record InIsoYear (n y : ℕ) : Type 0 where
@@ -155,6 +166,12 @@ iso_year_holds n h =
     let l : iso_start (y + 1) ≤ n = omega arith in
     simp (le-leb _ _ l) (iso_year_after n h y refl l))
 
+pub iso_year_range : (n : ℕ) → n < 3652059 → (1 ≤ iso_year n) × (iso_year n ≤ 10000)
+iso_year_range n h = ((iso_year_holds n h).first, omega (arith, (iso_year_holds n h).last))
+
+pub iso_year_from : (n : ℕ) → n < 3652059 → iso_start (iso_year n) ≤ n
+iso_year_from n h = (iso_year_holds n h).from
+
 pub iso_year_is : (n y : ℕ) → n < 3652059 → InIsoYear n y → y ≡ iso_year n
 iso_year_is n y h a = iso_year_unique n y (iso_year n) a (iso_year_holds n h)
 
@@ -200,7 +217,7 @@ is_valid_iso y w d v =
       lt-ltb _ _ v.below,
     )
 
-pub day_of_iso_is : (y w d : ℕ) → ValidIso y w d → day_of_iso y w d ≡ Day.Is (day_of_week y w d)
+pub day_of_iso_is : (y w d : ℕ) → ValidIso y w d → day_of_iso y w d ≡ Some (day_of_week y w d)
 unfolding day_of_iso
 day_of_iso_is y w d v = simp (is_valid_iso y w d v)
 
@@ -222,7 +239,7 @@ iso_of_day_of_iso y w d v =
     same e (omega (arith, ap iso_start e, v.week_low, v.low, v.high)) (omega (arith, ap iso_start e, v.week_low, v.low, v.high))
 
 pub iso_day_iso : (y w d : ℕ) → valid_iso y w d ≡ true
-    → iso_of_day (day_of_week y w d) ≡ IsoDated.Is (record { year = y; week = w; weekday = d })
+    → iso_of_day (day_of_week y w d) ≡ Some (record { year = y; week = w; weekday = d })
 unfolding iso_of_day
 iso_day_iso y w d e =
     let v = valid_iso_lem y w d e in
@@ -247,5 +264,5 @@ iso_of_day_valid n h =
       below = omega (arith, day_of_iso_of_day n h);
     }
 
-pub day_iso_day : (n : ℕ) → n < 3652059 → day_of_iso (iso_of n).year (iso_of n).week (iso_of n).weekday ≡ Day.Is n
-day_iso_day n h = day_of_iso_is _ _ _ (iso_of_day_valid n h) ∙ ap Day.Is (day_of_iso_of_day n h)
+pub day_iso_day : (n : ℕ) → n < 3652059 → day_of_iso (iso_of n).year (iso_of n).week (iso_of n).weekday ≡ Some n
+day_iso_day n h = day_of_iso_is _ _ _ (iso_of_day_valid n h) ∙ ap Some (day_of_iso_of_day n h)

@@ -3,11 +3,11 @@ use mathlib.Core.Bool.{Bool, true, false, cond, not, ◌&&◌, ◌||◌, false�
 use mathlib.Core.List.{List, [], ◌∷◌}
 use mathlib.Core.Logic.{dite}
 use mathlib.Core.Path.{◌≡◌, refl, sym, ap, ◌∙◌}
-use Prim.Native.Nat.{ℕ, zero, suc, ◌+◌, ◌-◌, ◌/◌, ◌<◌, ◌≤◌}
+use Prim.Native.Nat.{ℕ, zero, suc, ◌+◌, ◌-◌, ◌*◌, ◌/◌, ◌<◌, ◌≤◌}
 use native.Mathlib.Decide.{dec_lt}
 use native.Mathlib.Omega.{arith}
-use borrow.Author.Tests.{le-leb, lt-leb}
-use lib.Dec.{T, leb, eqb, eqb→eq, leb→le}
+use borrow.Author.Tests.{le-leb, lt-leb, lt-ltb, le-ltb}
+use lib.Dec.{T, leb, ltb, eqb, eqb→eq, leb→le}
 use lib.ListN.{get_or, length}
 use lib.Seq.{take_all}
 use Rattle.calendar.specs.Below.{every_below, within}
@@ -26,6 +26,28 @@ whole_year false = refl
 pub month_start_past : (b : Bool) (m : ℕ) → 12 < m → month_start b m ≡ cond b 366 365
 unfolding month_start
 month_start_past b m h = ap sum (take_all (m - 1) (month_lengths b) (omega arith)) ∙ whole_year b
+
+-- the closed form is the sum of the months' lengths
+abbrev closed : Bool → ℕ → ℕ
+closed b m = cond (ltb m 3) (m / 2 * 31) ((367 * m - 362) / 12 - 2 + cond b 1 0)
+
+right_at : Bool → ℕ → Bool
+right_at b m = eqb (closed b m) (month_start b m)
+
+all_right : (b : Bool) → T (every_below (right_at b) 13)
+unfolding right_at month_start
+all_right true = tt
+all_right false = tt
+
+closed_is : (b : Bool) (m : ℕ) → m < 13 → closed b m ≡ month_start b m
+unfolding right_at
+closed_is b m h = eqb→eq _ _ (every (right_at b) 13 (all_right b) m h)
+
+pub month_start_early : (b : Bool) (m : ℕ) → m < 3 → m / 2 * 31 ≡ month_start b m
+month_start_early b m h = rw (lt-ltb m 3 h) at (closed_is b m (omega arith))
+
+pub month_start_late : (b : Bool) (m : ℕ) → 3 ≤ m → m ≤ 12 → (367 * m - 362) / 12 - 2 + cond b 1 0 ≡ month_start b m
+month_start_late b m l h = rw (le-ltb m 3 l) at (closed_is b m (omega arith))
 
 past : (n : ℕ) (l : List ℕ) → length l ≤ n → get_or l n 0 ≡ 0
 past n [] h = refl
@@ -59,6 +81,15 @@ month_ends b m h =
       month_start_next b m h,
       leb→le (month_start b (m + 1)) (cond b 366 365) (right (eqb (month_start b (m + 1)) (month_start b m + month_length b m)) _ t),
     )
+
+pub month_start_most : (b : Bool) (m : ℕ) → month_start b m ≤ 366
+month_start_most b m =
+    dite (dec_lt 12 m) (λ (g : 12 < m). omega (arith, month_start_past b m g, longest b))
+    (λ (g : 12 < m → ⊥). omega (arith, month_ends b m (omega arith), longest b))
+  where
+    longest : (b : Bool) → cond b 366 365 ≤ 366
+    longest true = omega arith
+    longest false = omega arith
 
 -- what has a day is a month
 pub month_of_day : (b : Bool) (m d : ℕ) → 1 ≤ d → d ≤ month_length b m → (1 ≤ m) × (m ≤ 12)
@@ -116,6 +147,11 @@ all_back false = tt
 short_month : (b : Bool) (m : ℕ) → m ≤ 12 → T (leb (month_length b m) 31 && every_below (back b m) 31)
 short_month b m h = every (λ m. leb (month_length b m) 31 && every_below (back b m) 31) 13 (all_back b) m (omega arith)
 
+pub month_length_most : (b : Bool) (m : ℕ) → month_length b m ≤ 31
+month_length_most b m =
+    dite (dec_lt 12 m) (λ (g : 12 < m). omega (arith, month_length_past b m g))
+    (λ (g : 12 < m → ⊥). leb→le _ _ (left (leb (month_length b m) 31) _ (short_month b m (omega arith))))
+
 chosen : (a b : Bool) → a ≡ true → T (not a || b) → T b
 chosen true b e t = t
 chosen false b e t = absurd (false≢true e)
@@ -157,28 +193,25 @@ module _ (b : Bool) (r : ℕ) (h : r < 366) where
   guessed : T (guess b r)
   guessed = every (guess b) 366 (all_guess b) r h
 
-  pub guessed_next : (next : ℕ) → next ≡ month_start b (r / 32 + 1 + 1) → next ≤ r
-      → record { month = r / 32 + 1 + 1; day = r - next + 1 } ≡ month_day b r
+  pub guessed_next : month_start b (r / 32 + 1 + 1) ≤ r
+      → record { month = r / 32 + 1 + 1; day = r - month_start b (r / 32 + 1 + 1) + 1 } ≡ month_day b r
   unfolding guess
-  guessed_next next e l =
+  guessed_next l =
       let q = month_day b r in
-      let k : month_start b (r / 32 + 1 + 1) ≤ r = omega (arith, e) in
       let t : T (eqb (r / 32 + 1 + 1) q.month && eqb (r - month_start b (r / 32 + 1 + 1) + 1) q.day) =
-      simp (le-leb _ _ k) at guessed in
-      month_day_same (eqb→eq _ _ (left (eqb (r / 32 + 1 + 1) q.month) _ t))
-      (omega (arith, e, eqb→eq (r - month_start b (r / 32 + 1 + 1) + 1) q.day (right (eqb (r / 32 + 1 + 1) q.month) _ t)))
+      simp (le-leb _ _ l) at guessed in
+      month_day_same (eqb→eq _ _ (left (eqb (r / 32 + 1 + 1) q.month) _ t)) (eqb→eq _ _ (right (eqb (r / 32 + 1 + 1) q.month) _ t))
 
-  module _ (next this : ℕ) (e : next ≡ month_start b (r / 32 + 1 + 1)) (f : this ≡ month_start b (r / 32 + 1)) (l : r < next) where
+  module _ (l : r < month_start b (r / 32 + 1 + 1)) where
     guessed_first : T (leb (month_start b (r / 32 + 1)) r && (eqb (r / 32 + 1) (month_day b r).month && eqb (r - month_start b (r / 32 + 1) + 1) (month_day b r).day))
     unfolding guess
-    guessed_first = let k : r < month_start b (r / 32 + 1 + 1) = omega (arith, e) in simp (lt-leb _ _ k) at guessed
+    guessed_first = simp (lt-leb _ _ l) at guessed
 
-    pub guessed_within : this ≤ r
-    guessed_within = omega (arith, f, leb→le (month_start b (r / 32 + 1)) r (left (leb (month_start b (r / 32 + 1)) r) _ guessed_first))
+    pub guessed_within : month_start b (r / 32 + 1) ≤ r
+    guessed_within = leb→le (month_start b (r / 32 + 1)) r (left (leb (month_start b (r / 32 + 1)) r) _ guessed_first)
 
-    pub guessed_this : record { month = r / 32 + 1; day = r - this + 1 } ≡ month_day b r
+    pub guessed_this : record { month = r / 32 + 1; day = r - month_start b (r / 32 + 1) + 1 } ≡ month_day b r
     guessed_this =
         let q = month_day b r in
         let u = right (leb (month_start b (r / 32 + 1)) r) _ guessed_first in
-        month_day_same (eqb→eq _ _ (left (eqb (r / 32 + 1) q.month) _ u))
-        (omega (arith, f, eqb→eq (r - month_start b (r / 32 + 1) + 1) q.day (right (eqb (r / 32 + 1) q.month) _ u)))
+        month_day_same (eqb→eq _ _ (left (eqb (r / 32 + 1) q.month) _ u)) (eqb→eq _ _ (right (eqb (r / 32 + 1) q.month) _ u))

@@ -14,7 +14,7 @@ use Rattle.calendar.specs.declared.year.MonthDay.{MonthDay}
 use Rattle.calendar.proofs.Dates.{Valid, date_of_day_of_date}
 use Rattle.calendar.proofs.Every.{left, right, every}
 use Rattle.calendar.proofs.Months.{InMonth, month_day_holds, month_day_same}
-use Rattle.calendar.proofs.Years.{leap_day, trichotomy}
+use Rattle.calendar.proofs.Years.{leap_day, small, trichotomy}
 
 same_bool : (a b : Bool) → T (beq a b) → a ≡ b
 same_bool true true t = refl
@@ -60,6 +60,9 @@ pub in_window_year : (n : ℕ) → n < 36525 → InWindowYear n
 unfolding window_year
 in_window_year n h =
     record { last = omega arith; from = omega arith; short = omega (arith, divided (4 * n / 1461) (divides 4 (4 * n / 1461)) refl, leap_day (divides 4 (4 * n / 1461))) }
+
+pub window_place : (n : ℕ) → n < 36525 → (window_year (4 * n / 1461) ≤ n) × (n - window_year (4 * n / 1461) < 366)
+window_place n h = let a = in_window_year n h in (a.from, omega (arith, a.short, leap_day (divides 4 (4 * n / 1461)), small (divides 4 (4 * n / 1461))))
 
 -- months within the window
 month_year : (k : ℕ) → k < 1200 → k / 12 < 100
@@ -111,6 +114,9 @@ pub month_first_end : month_first 1200 ≡ 36525
 unfolding month_first
 month_first_end = refl
 
+pub month_first_below : (k : ℕ) → k < 1200 → window_year (k / 12) + month_start (divides 4 (k / 12)) (k % 12 + 1) ≤ 36525
+month_first_below k h = omega (arith, month_first_is k h, month_first_mono k 1200 (omega arith) (omega arith), month_first_end)
+
 -- a month has 28 to 31 days
 common_length : ℕ → Bool
 common_length k = within 28 31 (month_days k)
@@ -142,6 +148,9 @@ pub record InWindow (n : ℕ) (q : MonthDay) : Type 0 where
 module _ (n : ℕ) (h : n < 36525) where
   pub local_place : InMonth (divides 4 (year_of n)) (n - window_year (year_of n)) (place_of n)
   local_place = month_day_holds (divides 4 (year_of n)) (n - window_year (year_of n)) (in_window_year n h).short
+
+  pub place_month : (1 ≤ (place_of n).month) × ((place_of n).month ≤ 12)
+  place_month = (local_place.january, local_place.december)
 
   local_is : local_date n ≡ record { month = 12 * year_of n + ((place_of n).month - 1); day = (place_of n).day }
   unfolding local_date

@@ -20,7 +20,7 @@ pub leap_day : (b : Bool) → cond b 366 365 ≡ 365 + cond b 1 0
 leap_day true = refl
 leap_day false = refl
 
-small : (b : Bool) → cond b 1 0 ≤ 1
+pub small : (b : Bool) → cond b 1 0 ≤ 1
 small true = omega arith
 small false = omega arith
 
@@ -83,6 +83,9 @@ pub year_start_mono : (y z : ℕ) → y ≤ z → year_start y ≤ year_start z
 unfolding year_start
 year_start_mono y z h = years_mono (y - 1) (z - 1) (omega arith)
 
+pub year_start_top : (y : ℕ) → y ≤ 10000 → year_start y ≤ 3652059
+year_start_top y h = omega (arith, year_start_mono y 10000 h, year_start_end)
+
 -- what the year and the day of year of a day are
 pub record InYear (n : ℕ) (p : YearDay) : Type 0 where
   pub first : 1 ≤ p.year
@@ -140,3 +143,6 @@ year_day_holds n h = walked 9998 1 n n (omega arith) refl (omega (arith, year_st
 
 pub year_day_is : (n : ℕ) {p : YearDay} → n < 3652059 → InYear n p → p ≡ year_day n
 year_day_is n h a = in_year_unique n a (year_day_holds n h)
+
+pub year_day_range : (n : ℕ) → n < 3652059 → (1 ≤ (year_day n).year) × ((year_day n).year ≤ 9999)
+year_day_range n h = ((year_day_holds n h).first, (year_day_holds n h).last)

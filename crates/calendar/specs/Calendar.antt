@@ -1,10 +1,8 @@
 -- "Days and weeks": years, months, dates and their days.
-use Rattle.std.specs.Prelude.{Bool, true, false, cond, not, ◌&&◌, List, [], ◌∷◌, ℕ, zero, suc, ◌+◌, ◌-◌, ◌*◌, ◌%◌, ltb, eqb, ℤ, pos, negsuc, get_or, take}
+use Rattle.std.specs.Prelude.{Bool, true, false, cond, not, ◌&&◌, List, [], ◌∷◌, ℕ, zero, suc, ◌+◌, ◌-◌, ◌*◌, ◌%◌, ltb, eqb, ℤ, pos, negsuc, get_or, take, Option, Some, None}
 use Rattle.signed.specs.Bias.{all_days}
 use Rattle.calendar.specs.Below.{within}
 use Rattle.calendar.specs.declared.date.Date.{Date}
-use Rattle.calendar.specs.declared.date.Dated.{Dated}
-use Rattle.calendar.specs.declared.date.Day.{Day}
 use Rattle.calendar.specs.declared.year.MonthDay.{MonthDay}
 use Rattle.calendar.specs.declared.year.YearDay.{YearDay}
 
@@ -54,8 +52,8 @@ unfoldable pub valid_date : ℕ → ℕ → ℕ → Bool
 valid_date y m d = within 1 last_year y && within 1 (month_length (leap_year y) m) d
 
 -- the day of a date, or outside
-unfoldable pub day_of_date : ℕ → ℕ → ℕ → Day
-day_of_date y m d = cond (valid_date y m d) (Day.Is (day_of y m d)) Day.Outside
+unfoldable pub day_of_date : ℕ → ℕ → ℕ → Option ℕ
+day_of_date y m d = cond (valid_date y m d) (Some (day_of y m d)) None
 
 -- the years' lengths are taken off the days one after the other, from year y on and at most k of them
 unfoldable pub year_from : ℕ → ℕ → ℕ → YearDay
@@ -83,8 +81,8 @@ date_of n =
     record { year = p.year; month = q.month; day = q.day }
 
 -- the date of a day, or outside
-unfoldable pub date_of_day : ℕ → Dated
-date_of_day n = cond (ltb n all_days) (Dated.Is (date_of n)) Dated.Outside
+unfoldable pub date_of_day : ℕ → Option Date
+date_of_day n = cond (ltb n all_days) (Some (date_of n)) None
 
 -- "Weekday (Sunday 0) is the remainder, never negative, of day + 4 by 7": whole weeks are added to a negative day until it is not
 unfoldable pub weekday_of_day : ℤ → ℕ

@@ -1,11 +1,9 @@
 -- "Days and weeks": ISO weeks.
-use Rattle.std.specs.Prelude.{Bool, cond, ◌&&◌, ℕ, ◌+◌, ◌-◌, ◌*◌, ◌/◌, ◌%◌, leb, ltb}
+use Rattle.std.specs.Prelude.{Bool, cond, ◌&&◌, ℕ, ◌+◌, ◌-◌, ◌*◌, ◌/◌, ◌%◌, leb, ltb, Option, Some, None}
 use Rattle.signed.specs.Bias.{all_days}
 use Rattle.calendar.specs.Below.{within}
 use Rattle.calendar.specs.Calendar.{day_of, year_day, weekday_of, last_year}
-use Rattle.calendar.specs.declared.date.Day.{Day}
 use Rattle.calendar.specs.declared.iso.IsoDate.{IsoDate}
-use Rattle.calendar.specs.declared.iso.IsoDated.{IsoDated}
 
 -- "Weeks start on Monday": the Monday of a day's week
 unfoldable pub monday_of : ℕ → ℕ
@@ -27,8 +25,8 @@ unfoldable pub valid_iso : ℕ → ℕ → ℕ → Bool
 valid_iso y w d = within 1 last_year y && (within 1 (iso_weeks y) w && (within 1 7 d && ltb (day_of_week y w d) all_days))
 
 -- the day of an ISO date, or outside
-unfoldable pub day_of_iso : ℕ → ℕ → ℕ → Day
-day_of_iso y w d = cond (valid_iso y w d) (Day.Is (day_of_week y w d)) Day.Outside
+unfoldable pub day_of_iso : ℕ → ℕ → ℕ → Option ℕ
+day_of_iso y w d = cond (valid_iso y w d) (Some (day_of_week y w d)) None
 
 -- the last year whose week 1 starts no later than the day: the calendar year, or the one after or before it
 unfoldable pub iso_year : ℕ → ℕ
@@ -43,5 +41,5 @@ iso_of n =
     record { year = y; week = (n - iso_start y) / 7 + 1; weekday = (n - iso_start y) % 7 + 1 }
 
 -- the ISO date of a day, or outside
-unfoldable pub iso_of_day : ℕ → IsoDated
-iso_of_day n = cond (ltb n all_days) (IsoDated.Is (iso_of n)) IsoDated.Outside
+unfoldable pub iso_of_day : ℕ → Option IsoDate
+iso_of_day n = cond (ltb n all_days) (Some (iso_of n)) None

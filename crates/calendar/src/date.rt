@@ -15,48 +15,29 @@ pub struct Date {
     pub day: u64,
 }
 
-// The day of a date, or that there is none.
-#[derive(Clone, Copy)]
-pub enum Day {
-    Is(u64),
-    Outside,
-}
-
-// The date of a day, or that there is none.
-#[derive(Clone, Copy)]
-pub enum Dated {
-    Is(Date),
-    Outside,
-}
-
-pub fn day_of_date(year: u64, month: u64, day: u64) -> Day
+// The day of a date, if it is one of the range.
+#[tactic(auto, using(crate::proofs::Years::year_start_top, crate::proofs::Months::month_start_most, crate::proofs::Months::month_length_most), unfolding(crate::specs::Calendar::day_of_date, crate::specs::Calendar::valid_date, crate::specs::Calendar::day_of))]
+pub fn day_of_date(year: u64, month: u64, day: u64) -> Option<u64>
     ensures { result ≡ day_of_date year month day }
 {
-    if year < 1 {
-        return Day::Outside;
-    }
-    if LAST_YEAR < year {
-        return Day::Outside;
-    }
-    if day < 1 {
-        return Day::Outside;
-    }
     let leap = year::leap(year);
-    if year::month_length(leap, month) < day {
-        return Day::Outside;
+    if !(1..=LAST_YEAR).contains(&year) || !(1..=year::month_length(leap, month)).contains(&day) {
+        return None;
     }
-    Day::Is(year::start(year) + year::month_start(leap, month) + (day - 1))
+    Some(year::start(year) + year::month_start(leap, month) + (day - 1))
 }
 
-pub fn date_of_day(n: u64) -> Dated
+// The date of a day, if it is one of the range.
+#[tactic(auto, using(crate::proofs::Dates::place_below), unfolding(crate::specs::Calendar::date_of_day, crate::specs::Calendar::date_of))]
+pub fn date_of_day(n: u64) -> Option<Date>
     ensures { result ≡ date_of_day n }
 {
     if LAST_DAY < n {
-        return Dated::Outside;
+        return None;
     }
     let place = year::year_day(n);
     let month = year::month_day(year::leap(place.year), place.day);
-    Dated::Is(Date {
+    Some(Date {
         year: place.year,
         month: month.month,
         day: month.day,

@@ -3,6 +3,5 @@
 
 pub mod date;
 pub mod iso;
-pub mod num;
 pub mod window;
 pub mod year;

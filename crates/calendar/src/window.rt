@@ -25,6 +25,7 @@ pub const MINUTES: u64 = DAYS * DAY;
 pub const LAST_MINUTE: u64 = MINUTES - 1;
 
 // The local days before year 2000 + y.
+#[tactic(auto, unfolding(crate::specs::Window::window_year))]
 fn start(y: u64) -> u64
     requires { y ≤ 100 }
     ensures { result ≡ window_year y }
@@ -33,6 +34,7 @@ fn start(y: u64) -> u64
 }
 
 // The first local day of a month; past the window's 1,200 months, the first day past it.
+#[tactic(auto, using(crate::proofs::Windows::month_first_below), unfolding(crate::specs::Window::month_first))]
 pub fn month_first(month: u64) -> u64
     ensures { result ≡ month_first month }
 {
@@ -44,6 +46,7 @@ pub fn month_first(month: u64) -> u64
 }
 
 // The days of a month; past the window none.
+#[tactic(auto, unfolding(crate::specs::Window::month_days))]
 pub fn month_days(month: u64) -> u64
     ensures { result ≡ month_days month }
 {
@@ -54,6 +57,7 @@ pub fn month_days(month: u64) -> u64
 }
 
 // The month of a local day, and its day of month; past the window month 1,200, day 0.
+#[tactic(auto, using(crate::proofs::Windows::window_place, crate::proofs::Windows::place_month), unfolding(crate::specs::Window::local_date))]
 pub fn local_date(n: u64) -> MonthDay
     ensures { result ≡ local_date n }
 {

@@ -1,4 +1,5 @@
 -- Texts one behind the other in a buffer's front, and the answer there.
+use Rattle.std.specs.Prelude.{Ok, Err}
 use mathlib.Core.List.{List, [], ◌∷◌, ◌++◌, append_assoc, append-nil}
 use mathlib.Core.Path.{◌≡◌, refl, sym, ap, subst, ◌∙◌}
 use Prim.Native.Nat.{ℕ, ◌+◌, ◌<◌, ◌≤◌}
@@ -9,8 +10,8 @@ use lib.Seq.{take-length, take-append-add, take-append_seam, length-take-le}
 use Rattle.compile.proofs.Compiling.{compile_long, plan_left}
 use Rattle.compile.specs.Answers.{compiled_as, left_in}
 use Rattle.compile.specs.Compiled.{Compiled, plan, refusal, compile}
-use Rattle.compile.specs.Reading.{refusal_as}
-use Rattle.compile.specs.declared.Compiled.{Compiled as Answer}
+use Rattle.compile.proofs.Refusing.{refusal_numbered}
+use Rattle.compile.specs.Reasons.{reason_number, refusal_as}
 use Rattle.compile.specs.declared.Refusal.{Refusal}
 use Rattle.sheet.specs.Refusals.{too_long}
 use Rattle.commission.specs.Answer.{answer_of, decimal, refusal_text}
@@ -47,17 +48,20 @@ unfolding refusal_text
 refusal_joined number line e f g h = h ∙ rw (g, f, e) refl
 
 -- what is answered and left in the buffer
-plan_in : (c : Compiled) (buffer : List ℕ) (k : ℕ) → Answer.Plan k ≡ compiled_as c → take k (left_in buffer c) ≡ answer_of c
+plan_in : (c : Compiled) (buffer : List ℕ) (k : ℕ) → Ok k ≡ compiled_as c → take k (left_in buffer c) ≡ answer_of c
 plan_in (plan p) buffer k e = let h : k ≡ length p = cc in rw h (plan_left buffer p)
 plan_in (refusal number line at size) buffer k e = cc
 
-plan_short : (c : Compiled) (buffer : List ℕ) (k : ℕ) → Answer.Plan k ≡ compiled_as c → k ≤ length (left_in buffer c)
+plan_short : (c : Compiled) (buffer : List ℕ) (k : ℕ) → Ok k ≡ compiled_as c → k ≤ length (left_in buffer c)
 plan_short (plan p) buffer k e = let h : k ≡ length p = cc in omega (arith, h, length-append p (drop (length p) buffer))
 plan_short (refusal number line at size) buffer k e = let z : ◌≡◌ {A = ℕ} 0 1 = cc in absurd (omega arith)
 
-refusal_in : (c : Compiled) (r : Refusal) → Answer.Refused r ≡ compiled_as c → refusal_text r.number r.line ≡ answer_of c
-refusal_in (plan p) r e = cc
-refusal_in (refusal number line at size) r e = let h : r ≡ refusal_as number line at size = cc in rw h refl
+refusal_in : (c : Compiled) (r : Refusal)
+    → ((number line at size : ℕ) → c ≡ refusal number line at size → reason_number (refusal_as number line at size).reason ≡ number)
+    → Err r ≡ compiled_as c → refusal_text (reason_number r.reason) r.line ≡ answer_of c
+refusal_in (plan p) r n e = cc
+refusal_in (refusal number line at size) r n e =
+    let h : r ≡ refusal_as number line at size = cc in rw (h, n number line at size refl) refl
 
 none_more : (sheet more : List ℕ) → length more ≤ 0 → sheet ≡ sheet ++ more
 none_more sheet [] h = sym (append-nil sheet)
@@ -68,12 +72,12 @@ module _ (sheet more buffer : List ℕ) (last : length more ≤ 0) (room : 16448
   whole : compile sheet (length buffer) ≡ compile (sheet ++ more) 16448
   whole = ap (λ (n : ℕ). compile sheet n) (sym room) ∙ ap (λ (l : List ℕ). compile l 16448) (none_more sheet more last)
 
-  pub planned : (left : List ℕ) (k : ℕ) → Answer.Plan k ≡ compiled_as (compile sheet (length buffer))
+  pub planned : (left : List ℕ) (k : ℕ) → Ok k ≡ compiled_as (compile sheet (length buffer))
       → left ≡ left_in buffer (compile sheet (length buffer)) → (k ≤ length left) × (take k left ≡ answer_of (compile (sheet ++ more) 16448))
   planned left k e f =
       let c = compile sheet (length buffer) in
       (subst (λ (l : List ℕ). k ≤ length l) (sym f) (plan_short c buffer k e), ap (take k) f ∙ plan_in c buffer k e ∙ ap answer_of whole)
 
-  pub refused : (r : Refusal) → Answer.Refused r ≡ compiled_as (compile sheet (length buffer))
-      → refusal_text r.number r.line ≡ answer_of (compile (sheet ++ more) 16448)
-  refused r e = refusal_in (compile sheet (length buffer)) r e ∙ ap answer_of whole
+  pub refused : (r : Refusal) → Err r ≡ compiled_as (compile sheet (length buffer))
+      → refusal_text (reason_number r.reason) r.line ≡ answer_of (compile (sheet ++ more) 16448)
+  refused r e = refusal_in (compile sheet (length buffer)) r (refusal_numbered sheet (length buffer)) e ∙ ap answer_of whole

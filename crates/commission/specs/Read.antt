@@ -1,12 +1,11 @@
--- What a count of bytes that came says.
-use Rattle.std.specs.Prelude.{ℕ, ◌<◌, ◌≤◌}
-use Rattle.commission.specs.declared.input.Input.{Input}
+-- What a count of bytes that came says; where a read failed there is none.
+use Rattle.std.specs.Prelude.{ℕ, ◌<◌, ◌≤◌, Option, None, Some}
 
-abbrev pub Within : Input → ℕ → Type 0
-Within (Input.Is n) most = n ≤ most
-Within Input.Failed most = Unit {0}
+abbrev pub Within : Option ℕ → ℕ → Type 0
+Within (Some n) most = n ≤ most
+Within None most = Unit {0}
 
 -- a byte comes past a sheet only where the sheet is full
-abbrev pub Past : Input → ℕ → Type 0
-Past (Input.Is k) n = 0 < k → 16448 ≤ n
-Past Input.Failed n = Unit {0}
+abbrev pub Past : Option ℕ → ℕ → Type 0
+Past (Some k) n = 0 < k → 16448 ≤ n
+Past None n = Unit {0}

@@ -1,10 +1,10 @@
-// What is written of a sheet that was read.
+// What is written of a sheet that was read. What came behind a full sheet goes beside it: the two lie in two arrays.
 ghost use Rattle.std.specs.Prelude.{◌++◌, ◌≡◌, ◌+◌, ◌<◌, ◌≤◌, length, take};
 ghost use Rattle.compile.specs.Compiled.{compile as compile_of};
 ghost use Rattle.commission.specs.Answer.{answer_of, decimal, refusal_text};
 ghost use Rattle.io.specs.Counts.{IsPrefixLen};
 
-use compile::{Compiled, TOO_LONG};
+use compile::{MOST_BYTES, Reason};
 use std::io::Write;
 
 // Puts a part behind the text that the buffer's front holds.
@@ -18,6 +18,7 @@ fn append(out: &mut [u8], at: usize, part: &[u8]) -> usize
     end
 }
 
+#[tactic(auto, using(crate::proofs::Digits::decimal_digits))]
 fn append_number(out: &mut [u8], at: usize, n: u64) -> usize
     requires { at + 20 ≤ length out.old }
     ensures length { result ≤ at + 20 }
@@ -29,6 +30,7 @@ fn append_number(out: &mut [u8], at: usize, n: u64) -> usize
 }
 
 // The number, a space, the line and LF.
+#[tactic(auto, using(crate::proofs::Answering::refusal_joined))]
 fn refuse(out: &mut [u8], number: u64, line: u64) -> usize
     requires { 42 ≤ length out.old }
     ensures prefix_len { IsPrefixLen result out.new }
@@ -41,19 +43,17 @@ fn refuse(out: &mut [u8], number: u64, line: u64) -> usize
 }
 
 // The answer in the buffer's front, and its length.
-fn answer(sheet: &[u8], more: &[u8], out: &mut [u8]) -> usize
-    requires value { 16448 ≡ length out.old }
-    requires in_bounds { 0 < length more.now → 16448 ≤ length sheet.now }
+fn answer(sheet: &[u8], more: &[u8], out: &mut [u8; MOST_BYTES]) -> usize
+    requires { 0 < length more.now → 16448 ≤ length sheet.now }
     ensures prefix_len { IsPrefixLen result out.new }
     ensures text { take result out.new ≡ answer_of (compile_of (sheet.now ++ more.now) 16448) }
 {
-    if 0 < more.len() {
-        return refuse(out, TOO_LONG, 0);
+    if !more.is_empty() {
+        return refuse(out, Reason::TooLong.number(), 0);
     }
-    let compiled = compile::compile(sheet, out);
-    match compiled {
-        Compiled::Plan(length) => length,
-        Compiled::Refused(refusal) => refuse(out, refusal.number, refusal.line as u64),
+    match compile::compile(sheet, out) {
+        Ok(length) => length,
+        Err(refusal) => refuse(out, refusal.reason.number(), refusal.line as u64),
     }
 }
 
@@ -68,10 +68,9 @@ pub(crate) fn give<W: Write>(
     output: &mut W,
     sheet: &[u8],
     more: &[u8],
-    plan: &mut [u8],
+    plan: &mut [u8; MOST_BYTES],
 ) -> std::io::Result<()>
-    requires value { 16448 ≡ length plan.old }
-    requires in_bounds { 0 < length more.now → 16448 ≤ length sheet.now }
+    requires { 0 < length more.now → 16448 ≤ length sheet.now }
 {
     let length = answer(sheet, more, plan);
     send(output, sheet, more, &plan[..length])

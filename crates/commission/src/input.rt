@@ -5,37 +5,29 @@ ghost use Rattle.commission.specs.Read.{Within, Past};
 use compile::MOST_BYTES;
 use std::io::Read;
 
-// How many bytes came before the input's end or the buffer's; or a read failed.
-#[derive(Clone, Copy)]
-pub(crate) enum Input {
-    Is(usize),
-    Failed,
-}
-
-// Reads until the buffer is full or the input ends.
-pub(crate) fn fill<R: Read>(input: &mut R, buffer: &mut [u8]) -> Input
+// Reads until the buffer is full or the input ends; how many bytes came, unless a read failed.
+pub(crate) fn fill<R: Read>(input: &mut R, buffer: &mut [u8]) -> Option<usize>
     ensures { Within result (length buffer.new) }
 {
     let mut n = 0;
+    // No index: it goes on where the last read ended.
     while n < buffer.len() {
-        let Ok(more) = input.read(&mut buffer[n..]) else {
-            return Input::Failed;
-        };
+        let more = input.read(&mut buffer[n..]).ok()?;
         if more == 0 {
-            return Input::Is(n);
+            break;
         }
         n += more;
     }
-    Input::Is(n)
+    Some(n)
 }
 
 // Behind a full sheet one more byte is asked for.
-pub(crate) fn past<R: Read>(input: &mut R, n: usize, more: &mut [u8]) -> Input
+pub(crate) fn past<R: Read>(input: &mut R, n: usize, more: &mut [u8]) -> Option<usize>
     ensures within { Within result (length more.new) }
     ensures past { Past result n }
 {
     if n < MOST_BYTES {
-        return Input::Is(0);
+        return Some(0);
     }
     fill(input, more)
 }

@@ -4,10 +4,7 @@
 mod answer;
 mod input;
 
-ghost use Rattle.std.specs.Prelude.{◌≡◌, length};
-
 use compile::MOST_BYTES;
-use input::Input;
 use std::io;
 use std::io::{ErrorKind, Read, Write};
 
@@ -17,16 +14,12 @@ fn run<R: Read, W: Write>(
     output: &mut W,
     sheet: &mut [u8],
     more: &mut [u8],
-    plan: &mut [u8],
-) -> io::Result<()>
-    requires { 16448 ≡ length plan.old }
-{
-    let read = input::fill(input, sheet);
-    let Input::Is(n) = read else {
+    plan: &mut [u8; MOST_BYTES],
+) -> io::Result<()> {
+    let Some(n) = input::fill(input, sheet) else {
         return Ok(());
     };
-    let past = input::past(input, n, more);
-    let Input::Is(k) = past else {
+    let Some(k) = input::past(input, n, more) else {
         return Ok(());
     };
     answer::give(output, &sheet[..n], &more[..k], plan)

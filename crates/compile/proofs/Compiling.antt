@@ -1,4 +1,5 @@
 -- A sheet that is taken or refused, and what comes of it.
+use Rattle.std.specs.Prelude.{Result, Ok, Err}
 use mathlib.Core.Bool.{Bool, true, false}
 use mathlib.Core.List.{List, [], ◌∷◌, ◌++◌, map}
 use mathlib.Core.Path.{◌≡◌, refl, sym, ap, ◌∙◌}
@@ -8,7 +9,7 @@ use native.Mathlib.Omega.{arith}
 use borrow.Author.Tests.{lt-ltb, le-ltb, ltb-true, ltb-false}
 use lib.Dec.{ltb}
 use lib.ListN.{length, take, drop, length-append, length-map}
-use lib.Seq.{sets, length-sets, sets-eq, take-append_seam}
+use lib.Seq.{sets, length-sets, sets-eq, take-append_seam, length-take-le}
 use Rattle.calendar.proofs.Every.{neither}
 use Rattle.framed.specs.Framed.{frame_of}
 use Rattle.hex_lines.proofs.Puts.{put_inside}
@@ -23,10 +24,9 @@ use Rattle.sheet.specs.Form.{Form}
 use Rattle.sheet.specs.Refusals.{Sheet, taken, refused, too_long, read_sheet, bad_line, bad_at, bad_length}
 use Rattle.compile.specs.Answers.{compiled_as, left_in, frames_in}
 use Rattle.compile.specs.Compiled.{Compiled, plan, refusal, frames_after, compiled_frames, compiled_text, compile}
-use Rattle.compile.specs.Reading.{frames, sheet_frames, frames_read, refusal_as, read_as, first}
-use Rattle.compile.specs.declared.Compiled.{Compiled as Answer}
+use Rattle.compile.specs.Reading.{frames, sheet_frames, frames_read, read_as, first}
+use Rattle.compile.specs.Reasons.{refusal_as}
 use Rattle.compile.specs.declared.Refusal.{Refusal}
-use Rattle.compile.specs.declared.reading.Gathered.{Gathered}
 use Rattle.compile.proofs.Framing.{as_from, sheet_frames_is, frames_read_lem}
 
 -- ---- the frames of a sheet
@@ -53,6 +53,14 @@ unfolding too_long
 short text e = ltb-false 64 _ (neither (ltb 16448 (length text)) (ltb 64 (lines_in text)) e).1
 
 -- ---- what compiling is
+pub record Refused (text : List ℕ) (room : ℕ) (b : Refusal) : Type 0 where
+  pub number : ℕ
+  pub line : ℕ
+  pub at : ℕ
+  pub size : ℕ
+  pub compiled : compile text room ≡ refusal number line at size
+  pub same : b ≡ refusal_as number line at size
+
 module _ (text : List ℕ) (room : ℕ) where
   pub compile_long : too_long text ≡ true → compile text room ≡ refusal 1 0 0 0
   unfolding compile read_sheet bad_line bad_at bad_length
@@ -89,20 +97,26 @@ module _ (text : List ℕ) (room : ℕ) where
   unfolding compile
   compile_fits fs e h = rw (compile, e, le-ltb _ _ h) refl
 
-  pub compile_refused : too_long text ≡ false → (b : Refusal) → Gathered.Refused b ≡ read_as (sheet_frames text)
-      → compile text room ≡ refusal b.number b.line b.at b.length
+  pub compile_refused : too_long text ≡ false → (b : Refusal) → Err b ≡ read_as (sheet_frames text) → Refused text room b
   unfolding compile as_from
   compile_refused l b e = by_sheet (read_sheet text) refl (e ∙ ap read_as (sheet_frames_is text l))
     where
-      by_sheet : (s : Sheet) → read_sheet text ≡ s → Gathered.Refused b ≡ read_as (as_from 0 0 (lines_of text).whole (lines_of text).tail s)
-          → compile text room ≡ refusal b.number b.line b.at b.length
+      by_sheet : (s : Sheet) → read_sheet text ≡ s → Err b ≡ read_as (as_from 0 0 (lines_of text).whole (lines_of text).tail s)
+          → Refused text room b
       by_sheet (taken fs) g e = let z : ◌≡◌ {A = ℕ} 0 1 = cc in absurd (omega arith)
       by_sheet (refused number line) g e =
           let k : line - 0 ≡ line = omega arith in
           let z : 0 + bad_at line (lines_of text).whole ≡ bad_at line (lines_of text).whole = omega arith in
           let r : b ≡ refusal_as number line (bad_at line (lines_of text).whole) (bad_length line (lines_of text).whole (lines_of text).tail) =
           cc (k, z) in
-          rw (compile, g, r) refl
+          record {
+            number = number;
+            line = line;
+            at = bad_at line (lines_of text).whole;
+            size = bad_length line (lines_of text).whole (lines_of text).tail;
+            compiled = rw (compile, g) refl;
+            same = r;
+          }
 
 -- ---- a sheet that is taken
 record TakenAs (text : List ℕ) (n bytes : ℕ) : Type 0 where
@@ -112,7 +126,7 @@ record TakenAs (text : List ℕ) (n bytes : ℕ) : Type 0 where
   pub size : bytes ≡ length (plan_text (map frame_of forms))
   pub read : frames_read text ≡ map frame_of forms
 
-sheet_taken : (text : List ℕ) → too_long text ≡ false → (n bytes : ℕ) → Gathered.Is n bytes ≡ read_as (sheet_frames text)
+sheet_taken : (text : List ℕ) → too_long text ≡ false → (n bytes : ℕ) → Ok (n, bytes) ≡ read_as (sheet_frames text)
     → TakenAs text n bytes
 unfolding as_from sheet_frames frames_read
 sheet_taken text l n bytes e = by_sheet (read_sheet text) refl (sheet_frames_is text l)
@@ -120,16 +134,17 @@ sheet_taken text l n bytes e = by_sheet (read_sheet text) refl (sheet_frames_is 
     by_sheet : (s : Sheet) → read_sheet text ≡ s → sheet_frames text ≡ as_from 0 0 (lines_of text).whole (lines_of text).tail s
         → TakenAs text n bytes
     by_sheet (taken fs) g f =
-        let r : Gathered.Is n bytes ≡ read_as (frames (map frame_of fs)) = e ∙ ap read_as f in
+        let r : Ok (n, bytes) ≡ read_as (frames (map frame_of fs)) = e ∙ ap read_as f in
+        let k : ◌≡◌ {A = ℕ × ℕ} (n, bytes) (length (map frame_of fs), length (plan_text (map frame_of fs))) = cc in
         record {
           forms = fs;
           sheet = g;
-          count = cc (length-map fs frame_of);
-          size = cc;
+          count = ap (λ (p : ℕ × ℕ). p.0) k ∙ length-map fs frame_of;
+          size = ap (λ (p : ℕ × ℕ). p.1) k;
           read = frames_read_lem (lines_of text).whole 0 0 first (lines_of text).tail (map frame_of fs) f;
         }
     by_sheet (refused number line) g f =
-        let r : Gathered.Is n bytes ≡ Gathered.Refused _ = e ∙ ap read_as f in let z : ◌≡◌ {A = ℕ} 0 1 = cc in absurd (omega arith)
+        let r : ◌≡◌ {A = Result (ℕ × ℕ) Refusal} (Ok (n, bytes)) (Err _) = e ∙ ap read_as f in let z : ◌≡◌ {A = ℕ} 0 1 = cc in absurd (omega arith)
 
 -- ---- the frames that the rows hold are those that were stored
 rows_back : (fs : List Frame) → map frame_in (map row_of fs) ≡ fs
@@ -142,7 +157,7 @@ frames_kept rows₀ rows fs n e c h =
     let m : n ≡ length (map row_of fs) = c ∙ sym (length-map fs row_of) in
     rw (e, sets-eq (map row_of fs) rows₀ 0 (omega (arith, m)), m) (ap (map frame_in) (take-append_seam (map row_of fs) _) ∙ rows_back fs)
 
-pub rows_places : (rows₀ rows : List (List ℕ)) (fs : List Frame) → rows ≡ sets rows₀ 0 (map row_of fs) → length rows₀ ≡ 64 → length rows ≡ 64
+rows_places : (rows₀ rows : List (List ℕ)) (fs : List Frame) → rows ≡ sets rows₀ 0 (map row_of fs) → length rows₀ ≡ 64 → length rows ≡ 64
 rows_places rows₀ rows fs e h = ap length e ∙ length-sets rows₀ 0 (map row_of fs) ∙ h
 
 -- the plan in front of the buffer
@@ -154,12 +169,12 @@ plan_left buffer p = take-append_seam p (drop (length p) buffer)
 
 -- the plan of the first n rows fits, and is what compiling answers and leaves
 pub record Made (text buffer : List ℕ) (rows : List (List ℕ)) (n size : ℕ) : Type 0 where
-  pub fits : length (plan_text (frames_in rows n ++ (Frame.End n ∷ []))) ≤ length buffer
-  pub answer : Answer.Plan size ≡ compiled_as (compile text (length buffer))
-  pub left : put_at buffer 0 (plan_text (frames_in rows n ++ (Frame.End n ∷ []))) ≡ left_in buffer (compile text (length buffer))
+  pub fits : length (plan_text (frames_in rows n ++ (Frame.End (length (take n rows)) ∷ []))) ≤ length buffer
+  pub answer : Ok size ≡ compiled_as (compile text (length buffer))
+  pub left : put_at buffer 0 (plan_text (frames_in rows n ++ (Frame.End (length (take n rows)) ∷ []))) ≡ left_in buffer (compile text (length buffer))
 
 -- ---- a sheet that was read with n frames
-module _ (text buffer : List ℕ) (l : too_long text ≡ false) (n bytes end : ℕ) (e : Gathered.Is n bytes ≡ read_as (sheet_frames text)) (g : end ≡ length (whole_line (Frame.End n))) where
+module _ (text buffer : List ℕ) (l : too_long text ≡ false) (n bytes end : ℕ) (e : Ok (n, bytes) ≡ read_as (sheet_frames text)) (g : end ≡ length (whole_line (Frame.End n))) where
   t : TakenAs text n bytes
   t = sheet_taken text l n bytes e
 
@@ -187,8 +202,11 @@ module _ (text buffer : List ℕ) (l : too_long text ≡ false) (n bytes end : �
     pub plan_made : Made text buffer rows n (bytes + end)
     plan_made =
         let c = compile_fits text (length buffer) t.forms t.sheet (omega (arith, size)) in
+        let q : length (take n rows) ≡ n = length-take-le n rows (omega (arith, rows_places rows₀ rows (frames_read text) stored places)) in
+        let k : plan_text (frames_in rows n ++ (Frame.End (length (take n rows)) ∷ [])) ≡ compiled_text t.forms =
+        ap (λ (m : ℕ). plan_text (frames_in rows n ++ (Frame.End m ∷ []))) q ∙ kept in
         record {
-          fits = omega (arith, ap length kept, size);
-          answer = rw c (ap Answer.Plan size);
-          left = rw c (ap (put_at buffer 0) kept ∙ put_front buffer (compiled_text t.forms) (omega (arith, size)));
+          fits = omega (arith, ap length k, size);
+          answer = rw c (ap Ok size);
+          left = rw c (ap (put_at buffer 0) k ∙ put_front buffer (compiled_text t.forms) (omega (arith, size)));
         }

@@ -1,5 +1,5 @@
 -- The laws of compiling.
-pub mod Parts
+pub mod Reasons
 pub mod Stepping
 pub mod Rounds
 pub mod Written

@@ -1,4 +1,5 @@
 -- The loop over a sheet's lines: what is left to do makes what was to do at first.
+use Rattle.std.specs.Prelude.{Result, Ok, Err}
 use mathlib.Core.Bool.{Bool, true, false, cond}
 use mathlib.Core.List.{List, [], ◌∷◌, ◌++◌, map}
 use mathlib.Core.Path.{◌≡◌, refl, sym, ap, ◌∙◌}
@@ -8,25 +9,31 @@ use borrow.Author.Tests.{lt-ltb, le-leb}
 use lib.Dec.{eqb}
 use lib.ListN.{length, take, drop, set, length-drop, length-take, length-append, drop_of_length-le}
 use lib.Seq.{sets}
-use Rattle.line.specs.Lined.{context_as, lined}
-use Rattle.line.specs.declared.Lined.{Lined}
+use Rattle.line.specs.Lined.{number_of, refusal_with, context_as, lined}
+use Rattle.line.specs.declared.Refusal.{Refusal as LineRefusal}
 use Rattle.lines.proofs.Ends.{end_least, lines_at, lines_none}
 use Rattle.lines.specs.Lines.{Lines, lines_of, lines_in, line_end}
 use Rattle.plan.proofs.Placing.{whole_length, line_short}
 use Rattle.plan.specs.Rows.{row_of}
 use Rattle.plan.specs.Text.{frame_line, whole_line, plan_text}
 use Rattle.plan.specs.declared.Frame.{Frame}
-use Rattle.compile.specs.Reading.{SheetFrames, frames, refused, following, sheet_frames_from, first, sheet_frames, frames_from, frames_read, refusal_as, read_as, last_as, small}
+use Rattle.compile.specs.Reading.{SheetFrames, frames, refused, following, sheet_frames_from, first, sheet_frames, frames_from, frames_read, read_as, last_as, small}
+use Rattle.compile.specs.Reasons.{reason_with, refusal_as}
 use Rattle.compile.specs.Steps.{next_context, stepped, rows_with}
-use Rattle.compile.specs.declared.reading.Gathered.{Gathered}
+use Rattle.compile.specs.declared.Reason.{Reason}
+use Rattle.compile.specs.declared.Refusal.{Refusal}
 use Rattle.compile.specs.declared.step.State.{State}
-use Rattle.compile.specs.declared.step.Stepped.{Stepped}
+use Rattle.compile.proofs.Reasons.{reason_of_line}
 use Rattle.compile.proofs.Stepping.{step_is, step_refused}
 
 -- the answer of what is left after n frames and so many bytes
-abbrev left_as : ℕ → ℕ → SheetFrames → Gathered
-left_as n bytes (frames fs) = Gathered.Is (n + length fs) (bytes + length (plan_text fs))
-left_as n bytes (refused number line at size) = Gathered.Refused (refusal_as number line at size)
+abbrev left_as : ℕ → ℕ → SheetFrames → Result (ℕ × ℕ) Refusal
+left_as n bytes (frames fs) = Ok (n + length fs, bytes + length (plan_text fs))
+left_as n bytes (refused number line at size) = Err (refusal_as number line at size)
+
+-- a bad line
+abbrev pub bad_line : LineRefusal → ℕ → ℕ → ℕ → Refusal
+bad_line refusal line at size = record { reason = Reason.Line refusal; line = line; at = at; length = size }
 
 pub record Left (text : List ℕ) (rows₀ rows : List (List ℕ)) (at : ℕ) (s : State) : Type 0 where
   pub within : at ≤ length text
@@ -36,7 +43,7 @@ pub record Left (text : List ℕ) (rows₀ rows : List (List ℕ)) (at : ℕ) (s
   pub answer : left_as s.frames s.bytes (sheet_frames_from s.lines at s.context (lines_of (drop at text)).whole (lines_of (drop at text)).tail) ≡ read_as (sheet_frames text)
   pub stored : sets rows s.frames (map row_of (frames_from s.context (lines_of (drop at text)).whole)) ≡ sets rows₀ 0 (map row_of (frames_read text))
 
-abbrev pub Right : List ℕ → List (List ℕ) → List (List ℕ) → Gathered → Type 0
+abbrev pub Right : List ℕ → List (List ℕ) → List (List ℕ) → Result (ℕ × ℕ) Refusal → Type 0
 Right text rows₀ rows r = (r ≡ read_as (sheet_frames text)) × (rows ≡ sets rows₀ 0 (map row_of (frames_read text)))
 
 all_left : (x : SheetFrames) → left_as 0 0 x ≡ read_as x
@@ -85,22 +92,22 @@ module _ (text : List ℕ) (rows₀ rows : List (List ℕ)) (at : ℕ) (s : Stat
       (by_lines (eqb s.lines 0) ∙ r.0, r.1)
     where
       by_lines : (b : Bool)
-          → cond b (Gathered.Refused (refusal_as 4 1 0 0)) (Gathered.Is s.frames s.bytes) ≡ left_as s.frames s.bytes (cond b (refused 4 1 0 0) (frames []))
+          → cond {A = Result (ℕ × ℕ) Refusal} b (Err (refusal_as 4 1 0 0)) (Ok (s.frames, s.bytes)) ≡ left_as s.frames s.bytes (cond b (refused 4 1 0 0) (frames []))
       by_lines true = refl
       by_lines false = let e : s.frames + 0 ≡ s.frames = omega arith in let g : s.bytes + 0 ≡ s.bytes = omega arith in rw (e, g) refl
 
   pub left_small : small (last_as s.lines s.frames s.bytes) ≡ true
   left_small = by_lines (eqb s.lines 0)
     where
-      by_lines : (b : Bool) → small (cond b (Gathered.Refused (refusal_as 4 1 0 0)) (Gathered.Is s.frames s.bytes)) ≡ true
+      by_lines : (b : Bool) → small (cond b (Err (refusal_as 4 1 0 0)) (Ok (s.frames, s.bytes))) ≡ true
       by_lines true = refl
       by_lines false =
           rw (le-leb s.frames 64 (omega (arith, left.places)), le-leb s.bytes 5312 (omega (arith, left.places, left.bytes))) refl
 
   -- a line without LF
   pub left_tail : at < length text → length text ≤ line_end text at
-      → Right text rows₀ rows (Gathered.Refused (refusal_as 2 (s.lines + 1) at (line_end text at - at)))
-  unfolding sheet_frames_from frames_from
+      → Right text rows₀ rows (Err (bad_line LineRefusal.Bytes (s.lines + 1) at (line_end text at - at)))
+  unfolding sheet_frames_from frames_from reason_with refusal_with
   left_tail h l =
       let r = rest (record { whole = []; tail = drop at text }) (lines_none text at left.within l) in
       let n : line_end text at - at ≡ length (drop at text) = omega (arith, length-drop at text, (end_least text at left.within).to) in
@@ -123,34 +130,36 @@ module _ (text : List ℕ) (rows₀ rows : List (List ℕ)) (at : ℕ) (s : Stat
     pub left_room : s.frames < 64
     left_room = omega (arith, left.places, ap (λ (ls : Lines). length ls.whole) (lines_at text at left.within h))
 
-    on_lined : Lined → SheetFrames
+    on_lined : Result Frame LineRefusal → SheetFrames
     on_lined x = elim x [
-      | Lined.Is f ↦ following f (sheet_frames_from (s.lines + 1) (at + length line + 1) (next_context s.context f) more tail)
-      | Lined.Refused number ↦ refused number (s.lines + 1) at (length line)
+      | Ok f ↦ following f (sheet_frames_from (s.lines + 1) (at + length line + 1) (next_context s.context f) more tail)
+      | Err refusal ↦ refused (number_of refusal) (s.lines + 1) at (length line)
     ]
 
-    frames_on : Lined → List Frame
-    frames_on x = elim x [ Lined.Is f ↦ f ∷ frames_from (next_context s.context f) more | Lined.Refused number ↦ [] ]
+    frames_on : Result Frame LineRefusal → List Frame
+    frames_on x = elim x [ Ok f ↦ f ∷ frames_from (next_context s.context f) more | Err refusal ↦ [] ]
 
-    by_line : (x : Lined) → lined (context_as s.context) line ≡ x
+    by_line : (x : Result Frame LineRefusal) → lined (context_as s.context) line ≡ x
         → (left_as s.frames s.bytes (on_lined x) ≡ read_as (sheet_frames text))
         × (sets rows s.frames (map row_of (frames_on x)) ≡ sets rows₀ 0 (map row_of (frames_read text)))
     unfolding sheet_frames_from frames_from on_lined frames_on
     by_line x e =
         let r = rest (record { whole = line ∷ more; tail = tail }) (lines_at text at left.within h) in
-        (ap (λ (y : Lined). left_as s.frames s.bytes (on_lined y)) (sym e) ∙ r.0, ap (λ (y : Lined). sets rows s.frames (map row_of (frames_on y))) (sym e) ∙ r.1)
+        (ap (λ (y : Result Frame LineRefusal). left_as s.frames s.bytes (on_lined y)) (sym e) ∙ r.0, ap (λ (y : Result Frame LineRefusal). sets rows s.frames (map row_of (frames_on y))) (sym e) ∙ r.1)
 
-    left_bad : (number : ℕ) → lined (context_as s.context) line ≡ Lined.Refused number
-        → Right text rows₀ rows (Gathered.Refused (refusal_as number (s.lines + 1) at (line_end text at - at)))
+    left_bad : (refusal : LineRefusal) → lined (context_as s.context) line ≡ Err refusal
+        → Right text rows₀ rows (Err (bad_line refusal (s.lines + 1) at (line_end text at - at)))
     unfolding on_lined frames_on
-    left_bad number e = let r = by_line (Lined.Refused number) e in (rw size at r.0, r.1)
+    left_bad refusal e =
+        let r = by_line (Err refusal) e in
+        (ap (λ (x : Reason). Err (record { reason = x; line = s.lines + 1; at = at; length = line_end text at - at })) (sym (reason_of_line refusal)) ∙ (rw size at r.0), r.1)
 
-    left_on : (f : Frame) → lined (context_as s.context) line ≡ Lined.Is f
+    left_on : (f : Frame) → lined (context_as s.context) line ≡ Ok f
         → Left text rows₀ (set rows s.frames (row_of f)) (line_end text at + 1)
         (record { context = next_context s.context f; lines = s.lines + 1; frames = s.frames + 1; bytes = s.bytes + length (whole_line f) })
     unfolding on_lined frames_on
     left_on f e =
-        let r = by_line (Lined.Is f) e in
+        let r = by_line (Ok f) e in
         let p : at + length line + 1 ≡ line_end text at + 1 = omega (arith, size, (end_least text at left.within).from) in
         let n : s.frames + 1 ≡ suc s.frames = omega arith in
         record {
@@ -165,22 +174,22 @@ module _ (text : List ℕ) (rows₀ rows : List (List ℕ)) (at : ℕ) (s : Stat
           stored = ap (λ (k : ℕ). sets (set rows s.frames (row_of f)) k (map row_of (frames_from (next_context s.context f) more))) n ∙ r.1;
         }
 
-    onward : (f : Frame) → lined (context_as s.context) line ≡ Lined.Is f → (next : State)
+    onward : (f : Frame) → lined (context_as s.context) line ≡ Ok f → (next : State)
         → next ≡ record { context = next_context s.context f; lines = s.lines + 1; frames = s.frames + 1; bytes = s.bytes + length (whole_line f) }
         → (rows' : List (List ℕ)) → rows' ≡ set rows s.frames (row_of f) → Left text rows₀ rows' (line_end text at + 1) next
     onward f e next p rows' g = rw (p, g) (left_on f e)
 
     -- as the step leaves it
-    pub left_stepped : (next : State) (rows' : List (List ℕ)) → stepped s (lined (context_as s.context) line) ≡ Stepped.Is next
+    pub left_stepped : (next : State) (rows' : List (List ℕ)) → stepped s (lined (context_as s.context) line) ≡ Ok next
         → rows' ≡ rows_with rows s.frames (lined (context_as s.context) line) → Left text rows₀ rows' (line_end text at + 1) next
     left_stepped next rows' e g =
         let q = step_is s (lined (context_as s.context) line) next e in
         onward q.frame q.is next q.same rows' (g ∙ ap (rows_with rows s.frames) q.is)
 
-    pub left_refused : (number : ℕ) (rows' : List (List ℕ)) → stepped s (lined (context_as s.context) line) ≡ Stepped.Refused number
+    pub left_refused : (refusal : LineRefusal) (rows' : List (List ℕ)) → stepped s (lined (context_as s.context) line) ≡ Err refusal
         → rows' ≡ rows_with rows s.frames (lined (context_as s.context) line)
-        → Right text rows₀ rows' (Gathered.Refused (refusal_as number (s.lines + 1) at (line_end text at - at)))
-    left_refused number rows' e g =
-        let x = step_refused s (lined (context_as s.context) line) number e in
-        let l = left_bad number x in
+        → Right text rows₀ rows' (Err (bad_line refusal (s.lines + 1) at (line_end text at - at)))
+    left_refused refusal rows' e g =
+        let x = step_refused s (lined (context_as s.context) line) refusal e in
+        let l = left_bad refusal x in
         (l.0, g ∙ ap (rows_with rows s.frames) x ∙ l.1)

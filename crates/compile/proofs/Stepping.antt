@@ -1,4 +1,5 @@
 -- One line more.
+use Rattle.std.specs.Prelude.{Result, Ok, Err}
 use mathlib.Core.Bool.{true}
 use mathlib.Core.List.{List}
 use mathlib.Core.Path.{◌≡◌, refl}
@@ -14,7 +15,7 @@ use Rattle.line.proofs.Numbered.{lined_is}
 use Rattle.line.specs.Lined.{before_as, context_as, lined}
 use Rattle.line.specs.declared.Before.{Before}
 use Rattle.line.specs.declared.Context.{Context}
-use Rattle.line.specs.declared.Lined.{Lined}
+use Rattle.line.specs.declared.Refusal.{Refusal}
 use Rattle.plan.specs.Text.{whole_line}
 use Rattle.plan.specs.declared.Frame.{Frame}
 use Rattle.sheet.proofs.Times.{minute_in_window}
@@ -25,7 +26,6 @@ use Rattle.sheet.specs.Refusals.{form_refusal}
 use Rattle.zone.specs.Zone.{bias}
 use Rattle.compile.specs.Steps.{room_for, frame_fits, next_context, stepped}
 use Rattle.compile.specs.declared.step.State.{State}
-use Rattle.compile.specs.declared.step.Stepped.{Stepped}
 
 -- a transition of a line that is taken has room, and is of the window
 form_fits : (c : Context) (f : Form) → form_refusal (context_as c) f ≡ 0 → frame_fits c (frame_of f) ≡ true
@@ -45,19 +45,19 @@ form_fits c (rule t ps) e = refl
 form_fits c (extra t) e = refl
 form_fits c (except t) e = refl
 
-pub frame_fits_lem : (c : Context) (line : List ℕ) (f : Frame) → lined (context_as c) line ≡ Lined.Is f → frame_fits c f ≡ true
+pub frame_fits_lem : (c : Context) (line : List ℕ) (f : Frame) → lined (context_as c) line ≡ Ok f → frame_fits c f ≡ true
 frame_fits_lem c line f e = let l = lined_is (context_as c) line f e in rw l.same (form_fits c l.form l.fine)
 
 -- ---- what a step's answer says of its line
-pub record SteppedIs (s : State) (x : Lined) (next : State) : Type 0 where
+pub record SteppedIs (s : State) (x : Result Frame Refusal) (next : State) : Type 0 where
   pub frame : Frame
-  pub is : x ≡ Lined.Is frame
+  pub is : x ≡ Ok frame
   pub same : next ≡ record { context = next_context s.context frame; lines = s.lines + 1; frames = s.frames + 1; bytes = s.bytes + length (whole_line frame) }
 
-pub step_is : (s : State) (x : Lined) (next : State) → stepped s x ≡ Stepped.Is next → SteppedIs s x next
-step_is s (Lined.Is f) next e = record { frame = f; is = refl; same = cc }
-step_is s (Lined.Refused number) next e = let z : ◌≡◌ {A = ℕ} 0 1 = cc in absurd (omega arith)
+pub step_is : (s : State) (x : Result Frame Refusal) (next : State) → stepped s x ≡ Ok next → SteppedIs s x next
+step_is s (Ok f) next e = record { frame = f; is = refl; same = cc }
+step_is s (Err refusal) next e = let z : ◌≡◌ {A = ℕ} 0 1 = cc in absurd (omega arith)
 
-pub step_refused : (s : State) (x : Lined) (number : ℕ) → stepped s x ≡ Stepped.Refused number → x ≡ Lined.Refused number
-step_refused s (Lined.Is f) number e = let z : ◌≡◌ {A = ℕ} 0 1 = cc in absurd (omega arith)
-step_refused s (Lined.Refused n) number e = cc
+pub step_refused : (s : State) (x : Result Frame Refusal) (refusal : Refusal) → stepped s x ≡ Err refusal → x ≡ Err refusal
+step_refused s (Ok f) refusal e = let z : ◌≡◌ {A = ℕ} 0 1 = cc in absurd (omega arith)
+step_refused s (Err r) refusal e = cc

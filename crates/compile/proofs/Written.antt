@@ -5,7 +5,7 @@ use Prim.Native.Nat.{ℕ, suc, ◌+◌, ◌-◌, ◌<◌, ◌≤◌}
 use native.Mathlib.Omega.{arith}
 use borrow.Author.Tests.{le-leb}
 use lib.ListN.{length, get_or, take, drop, length-append}
-use lib.Seq.{take-suc, take-add}
+use lib.Seq.{take-suc, take-add, take-length}
 use Rattle.hex_lines.proofs.Puts.{put_nothing, length_put, put_then}
 use Rattle.hex_lines.specs.Hex.{put_at, past_put}
 use Rattle.plan.proofs.Placing.{text_append, text_snoc}
@@ -72,7 +72,7 @@ module _ (plan₀ : List ℕ) (rows : List (List ℕ)) (n : ℕ) (room : length 
         length-append (plan_text (frames_in rows n)) (whole_line (Frame.End n)),
       )
 
-  pub written_next : (plan : List ℕ) (at i : ℕ) → Written plan₀ rows n plan at i → i < n → i < length rows → (f : Frame)
+  written_next : (plan : List ℕ) (at i : ℕ) → Written plan₀ rows n plan at i → i < n → i < length rows → (f : Frame)
       → f ≡ frame_in (get_or rows i [])
       → Written plan₀ rows n (put_at plan at (whole_line f)) (past_put plan at (whole_line f)) (i + 1)
   written_next plan at i w h l f g =
@@ -86,7 +86,20 @@ module _ (plan₀ : List ℕ) (rows : List (List ℕ)) (n : ℕ) (room : length 
         put = next_put plan₀ (frames_in rows i) (frame_in (get_or rows i [])) r ∙ ap (λ (fs : List Frame). put_at plan₀ 0 (plan_text fs)) (sym e);
       })
 
-  pub written_end : (plan : List ℕ) (at i : ℕ) → Written plan₀ rows n plan at i → n ≤ i
+  written_end : (plan : List ℕ) (at i : ℕ) → Written plan₀ rows n plan at i → n ≤ i
       → put_at plan at (whole_line (Frame.End n)) ≡ put_at plan₀ 0 (plan_text (frames_in rows n ++ (Frame.End n ∷ [])))
   written_end plan at i w h =
       let e : i ≡ n = omega (arith, w.count) in rw (w.put, w.place, e) (next_put plan₀ (frames_in rows n) (Frame.End n) room)
+
+-- ---- all rows
+module _ (plan₀ : List ℕ) (rows : List (List ℕ)) (room : length (plan_text (map frame_in rows ++ (Frame.End (length rows) ∷ []))) ≤ length plan₀) where
+  all_room : length (plan_text (frames_in rows (length rows) ++ (Frame.End (length rows) ∷ []))) ≤ length plan₀
+  all_room = rw (take-length rows) room
+
+  pub all_next : (plan : List ℕ) (at i : ℕ) → Written plan₀ rows (length rows) plan at i → i < length rows → (f : Frame) → f ≡ frame_in (get_or rows i [])
+      → Written plan₀ rows (length rows) (put_at plan at (whole_line f)) (past_put plan at (whole_line f)) (i + 1)
+  all_next plan at i w h f g = written_next plan₀ rows (length rows) all_room plan at i w h h f g
+
+  pub all_end : (plan : List ℕ) (at i : ℕ) → Written plan₀ rows (length rows) plan at i → length rows ≤ i
+      → put_at plan at (whole_line (Frame.End (length rows))) ≡ put_at plan₀ 0 (plan_text (map frame_in rows ++ (Frame.End (length rows) ∷ [])))
+  all_end plan at i w h = rw (take-length rows) at (written_end plan₀ rows (length rows) all_room plan at i w h)

@@ -1,15 +1,15 @@
 -- What compiling answers, and what it leaves in the buffer.
-use Rattle.std.specs.Prelude.{List, map, ◌++◌, ℕ, length, take, drop}
+use Rattle.std.specs.Prelude.{List, map, ◌++◌, ℕ, length, take, drop, Result, Ok, Err}
 use Rattle.plan.specs.Rows.{frame_in}
 use Rattle.plan.specs.declared.Frame.{Frame}
 use Rattle.compile.specs.Compiled.{Compiled, plan, refusal}
-use Rattle.compile.specs.Reading.{refusal_as}
-use Rattle.compile.specs.declared.Compiled.{Compiled as Answer}
+use Rattle.compile.specs.Reasons.{refusal_as}
+use Rattle.compile.specs.declared.Refusal.{Refusal}
 
--- 0 with the plan's length, or the refusal
-abbrev pub compiled_as : Compiled → Answer
-compiled_as (plan p) = Answer.Plan (length p)
-compiled_as (refusal number line at size) = Answer.Refused (refusal_as number line at size)
+-- the plan's length, or the refusal
+abbrev pub compiled_as : Compiled → Result ℕ Refusal
+compiled_as (plan p) = Ok (length p)
+compiled_as (refusal number line at size) = Err (refusal_as number line at size)
 
 -- the plan in front and the rest unchanged; on a refusal no byte is changed
 abbrev pub left_in : List ℕ → Compiled → List ℕ

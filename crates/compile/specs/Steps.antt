@@ -1,15 +1,14 @@
 -- What one line more does to what the lines before it leave.
-use Rattle.std.specs.Prelude.{Bool, true, ◌&&◌, List, ℕ, ◌+◌, leb, ltb, length, set}
+use Rattle.std.specs.Prelude.{Bool, true, ◌&&◌, List, ℕ, ◌+◌, leb, ltb, length, set, Result, Ok, Err}
 use Rattle.calendar.specs.Window.{window_last}
 use Rattle.line.specs.declared.Before.{Before}
 use Rattle.line.specs.declared.Context.{Context}
-use Rattle.line.specs.declared.Lined.{Lined}
+use Rattle.line.specs.declared.Refusal.{Refusal}
 use Rattle.plan.specs.Rows.{row_of}
 use Rattle.plan.specs.Text.{whole_line}
 use Rattle.plan.specs.declared.Frame.{Frame}
 use Rattle.zone.specs.Zone.{bias, distance, most_changes}
 use Rattle.compile.specs.declared.step.State.{State}
-use Rattle.compile.specs.declared.step.Stepped.{Stepped}
 
 abbrev pub one_more : Before → Before
 one_more Before.Start = Before.Lines
@@ -45,16 +44,12 @@ frame_fits c (Frame.Extra m) = true
 frame_fits c (Frame.Excepted m) = true
 frame_fits c (Frame.End n) = true
 
-abbrev pub refused_as : Lined → Stepped
-refused_as (Lined.Is f) = Stepped.Refused 0
-refused_as (Lined.Refused number) = Stepped.Refused number
-
 -- "One frame for each sheet line": its row, and its plan line's bytes
-abbrev pub stepped : State → Lined → Stepped
-stepped s (Lined.Is f) =
-    Stepped.Is (record { context = next_context s.context f; lines = s.lines + 1; frames = s.frames + 1; bytes = s.bytes + length (whole_line f) })
-stepped s (Lined.Refused number) = Stepped.Refused number
+abbrev pub stepped : State → Result Frame Refusal → Result State Refusal
+stepped s (Ok f) =
+    Ok (record { context = next_context s.context f; lines = s.lines + 1; frames = s.frames + 1; bytes = s.bytes + length (whole_line f) })
+stepped s (Err refusal) = Err refusal
 
-abbrev pub rows_with : List (List ℕ) → ℕ → Lined → List (List ℕ)
-rows_with rows n (Lined.Is f) = set rows n (row_of f)
-rows_with rows n (Lined.Refused number) = rows
+abbrev pub rows_with : List (List ℕ) → ℕ → Result Frame Refusal → List (List ℕ)
+rows_with rows n (Ok f) = set rows n (row_of f)
+rows_with rows n (Err refusal) = rows

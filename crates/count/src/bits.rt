@@ -12,14 +12,12 @@ pub(crate) fn nth_bit(mask: u64, n: u64, count: u64) -> u64
     ensures { result ≡ nth_from (bit mask) count (64 - n) n }
 {
     let mut at = n;
-    let mut left = count;
-    while 1 < left {
+    for _passed in 1..count {
         let next = masks::next_bit(mask, at);
         if NONE <= next {
             return NONE;
         }
         at = next + 1;
-        left = left - 1;
     }
     masks::next_bit(mask, at)
 }

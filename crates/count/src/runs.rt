@@ -3,8 +3,6 @@ ghost use Rattle.std.specs.Prelude.{◌≡◌, ◌+◌, ◌<◌};
 ghost use Rattle.masks.specs.Masks.{bit, mask_from};
 ghost use Rattle.count.specs.Runs.{Runs, Within};
 
-use calendar::num;
-
 // `wide` bits of a mask from `low` on.
 fn span(mask: u64, low: u64, wide: u64) -> u64
     requires { low + wide < 64 }
@@ -18,11 +16,12 @@ pub(crate) fn runs(mask: u64, n: u64, x: u64, width: u64, turn: u64, len: u64) -
     requires { Within mask n x width turn len }
     ensures { Runs mask n x width turn len result }
 {
-    let mut kept = span(mask, n, num::minus(width, x));
+    let mut kept = span(mask, n, width.saturating_sub(x));
     let mut at = n + (turn - x);
+    // No `step_by`: its step is a usize, and the cast would make it no plainer.
     while at <= len {
-        kept = kept | span(mask, at, width);
-        at = at + turn;
+        kept |= span(mask, at, width);
+        at += turn;
     }
     kept
 }

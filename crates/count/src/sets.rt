@@ -8,7 +8,7 @@ ghost use Rattle.days.specs.Steps.{day_part};
 ghost use Rattle.count.specs.Sets.{set_of, AllFrom, HeldSet};
 
 use crate::{runs, turns};
-use calendar::{num, window};
+use calendar::window;
 use frames::places::Row;
 use frames::{kinds, months, places};
 
@@ -33,7 +33,7 @@ fn counted_set(f: &Row, k: u64, set: u64) -> u64
     let first = window::month_first(k);
     let len = window::month_days(k);
     let begun = f[places::START] / window::DAY;
-    let from = num::larger(first, begun);
+    let from = first.max(begun);
     if first + len <= from {
         return 0;
     }

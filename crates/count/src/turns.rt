@@ -33,13 +33,10 @@ pub(crate) fn place(width: u64, start: u64, day: u64) -> u64
 fn stride(every: u64) -> u64
     ensures { Stride every result }
 {
-    if every == 0 {
-        return NEVER;
+    if (1..=window::DAYS).contains(&every) {
+        return every;
     }
-    if window::DAYS < every {
-        return NEVER;
-    }
-    every
+    NEVER
 }
 
 // The days from one period that counts to the next; 1 where every day does.

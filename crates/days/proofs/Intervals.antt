@@ -31,7 +31,7 @@ over_not i q c m e p k =
     let r : m % i ≡ c = ap (λ (x : ℕ). x % i) e ∙ mul-add-mod_self_left i q c ∙ k in
     ne_eqb (m % i) 0 (λ (z : m % i ≡ 0). omega (arith, r, z))
 
-week_of : (d : ℕ) → local_week d ≡ (730119 + d) / 7
+pub week_of : (d : ℕ) → local_week d ≡ (730119 + d) / 7
 unfolding local_week monday_of weekday_of
 week_of d = omega arith
 

@@ -1,5 +1,5 @@
 -- The day test in two parts: what goes by the month, a set of its days, and what goes by the day; and where a walk over days stands.
-use Rattle.std.specs.Prelude.{Bool, true, false, cond, ◌&&◌, ◌||◌, List, ◌≡◌, ℕ, ◌+◌, ◌*◌, ◌-◌, ◌/◌, ◌<◌, ◌≤◌, leb, get_or, set}
+use Rattle.std.specs.Prelude.{Bool, true, false, cond, ◌&&◌, ◌||◌, List, ◌≡◌, ℕ, ◌+◌, ◌*◌, ◌-◌, ◌/◌, ◌%◌, ◌<◌, ◌≤◌, leb, get_or, set}
 use Rattle.calendar.specs.Window.{month_first, month_days, local_date, window_first, day_minutes, window_days, window_months}
 use Rattle.masks.specs.Masks.{bit}
 use Rattle.frames.specs.Months.{day_of, InMonth}
@@ -25,6 +25,10 @@ abbrev pub begin_of : Periods → ℕ → ℕ
 begin_of Periods.Days p = p
 begin_of Periods.Weeks p = 7 * p - window_first
 begin_of Periods.Years p = 365 * p + (p + 3) / 4
+
+-- how many periods a day's own is past the last that counts
+abbrev pub over_of : Rule → Periods → ℕ → ℕ
+over_of f q d = (period_of q d - period_of q (f.start / day_minutes)) % f.interval
 
 -- the interval of a daily or weekly rule
 unfoldable pub day_counts : Rule → ℕ → Bool

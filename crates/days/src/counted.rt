@@ -1,13 +1,12 @@
-// The days that the interval of a daily, weekly or yearly rule leaves out, passed over at once.
-ghost use Rattle.std.specs.Prelude.{◌≡◌, true, ◌+◌, ◌≤◌};
+// The days that the interval of a daily, weekly or yearly rule leaves out, passed over at once. A day stays a number, at most the window's end by its clause: that answers where no more counts.
+ghost use Rattle.std.specs.Prelude.{◌≡◌, true, ◌/◌, ◌≤◌};
 ghost use Rattle.frames.specs.Kinds.{kind_in, rule_kind, frequency_in};
-ghost use Rattle.calendar.specs.Window.{window_days};
-ghost use Rattle.frames.specs.Numbers.{day_held};
+ghost use Rattle.calendar.specs.Window.{day_minutes, window_days};
+ghost use Rattle.frames.specs.Numbers.{rule_of, day_held, start_in};
 ghost use Rattle.frames.specs.Years.{yearly};
-ghost use Rattle.days.specs.Steps.{periods_number, period_of, begin_of, Passed};
+ghost use Rattle.days.specs.Steps.{periods_number, period_of, begin_of, over_of, Passed};
 ghost use Rattle.days.specs.declared.counted.Periods.{Periods};
 
-use calendar::num::over_whole;
 use calendar::window;
 use frames::places::Row;
 use frames::{kinds, places};
@@ -43,6 +42,16 @@ fn begin(periods: Periods, p: u64) -> u64
     }
 }
 
+// How many periods a day's own is past the last that counts, which the start's is: an interval of 0 counts that one alone.
+#[tactic(auto, using(crate::proofs::Intervals::period_rises))]
+pub(crate) fn periods_over(f: &Row, periods: Periods, d: u64) -> u64
+    requires { (start_in f.now / day_minutes ≤ d) × (d ≤ window_days) }
+    ensures { result ≡ over_of (rule_of f.now) periods d }
+{
+    let passed = period(periods, d) - period(periods, f[places::START] / window::DAY);
+    passed.checked_rem(f[places::INTERVAL]).unwrap_or(passed)
+}
+
 // The first day from d on whose period counts, or one past 2099.
 fn period_from(f: &Row, periods: Periods, d: u64) -> u64
     requires { (d ≤ window_days) × (kind_in f.now ≡ rule_kind) × (frequency_in f.now ≡ periods_number periods) }
@@ -52,19 +61,15 @@ fn period_from(f: &Row, periods: Periods, d: u64) -> u64
     if d <= first {
         return first;
     }
-    let p = period(periods, d);
-    let every = f[places::INTERVAL];
-    let over = over_whole(p - period(periods, first), every);
+    let over = periods_over(f, periods, d);
     if over == 0 {
         return d;
     }
-    if every <= over {
+    let every = f[places::INTERVAL];
+    if every <= over || window::DAYS < every {
         return window::DAYS;
     }
-    if window::DAYS < every {
-        return window::DAYS;
-    }
-    begin(periods, p + every - over)
+    begin(periods, period(periods, d) + every - over)
 }
 
 // One past the last day below d whose period counts, or 0.
@@ -72,19 +77,18 @@ fn period_before(f: &Row, periods: Periods, d: u64) -> u64
     requires { (d ≤ window_days) × (kind_in f.now ≡ rule_kind) × (frequency_in f.now ≡ periods_number periods) }
     ensures { Passed (day_held f.now) result d }
 {
-    let first = f[places::START] / window::DAY;
-    if d <= first {
+    if d <= f[places::START] / window::DAY {
         return 0;
     }
-    let p = period(periods, d - 1);
-    let over = over_whole(p - period(periods, first), f[places::INTERVAL]);
+    let over = periods_over(f, periods, d - 1);
     if over == 0 {
         return d;
     }
-    begin(periods, p - over + 1)
+    begin(periods, period(periods, d - 1) - over + 1)
 }
 
 // A day from d on, before which the interval of a daily or weekly rule leaves all days out.
+#[tactic(auto, using(crate::proofs::Intervals::passed_none))]
 pub(crate) fn counted_from(f: &Row, d: u64) -> u64
     requires { d ≤ window_days }
     ensures { Passed (day_held f.now) d result }
@@ -102,6 +106,7 @@ pub(crate) fn counted_from(f: &Row, d: u64) -> u64
 }
 
 // The same of a yearly rule, by its years.
+#[tactic(auto, using(crate::proofs::YearWalks::yearly_kind))]
 pub(crate) fn year_from(f: &Row, d: u64) -> u64
     requires { (d ≤ window_days) × (yearly f.now ≡ true) }
     ensures { Passed (day_held f.now) d result }
@@ -110,6 +115,7 @@ pub(crate) fn year_from(f: &Row, d: u64) -> u64
 }
 
 // A day up to d, from which on to d that interval leaves all days out.
+#[tactic(auto, using(crate::proofs::Intervals::passed_none))]
 pub(crate) fn counted_before(f: &Row, d: u64) -> u64
     requires { d ≤ window_days }
     ensures { Passed (day_held f.now) result d }
@@ -127,6 +133,7 @@ pub(crate) fn counted_before(f: &Row, d: u64) -> u64
 }
 
 // The same of a yearly rule, by its years.
+#[tactic(auto, using(crate::proofs::YearWalks::yearly_kind))]
 pub(crate) fn year_before(f: &Row, d: u64) -> u64
     requires { (d ≤ window_days) × (yearly f.now ≡ true) }
     ensures { Passed (day_held f.now) result d }

@@ -1,4 +1,4 @@
-// The held days of a range of days.
+// The held days of a range of days. A range stays two numbers with their bounds in the clauses: `Least` and `Last` speak of both, and each walk makes new ends.
 ghost use Rattle.std.specs.Prelude.{◌≡◌, true, ◌-◌, ◌≤◌, ◌<◌};
 ghost use Rattle.calendar.proofs.Leasts.{Least, Last};
 ghost use Rattle.calendar.specs.Window.{window_days};
@@ -8,19 +8,19 @@ ghost use Rattle.days.specs.Search.{least_day, last_day};
 ghost use Rattle.days.specs.Steps.{readied, Passed, OneYear, year_first, year_past};
 
 use crate::{back, counted, steps, walk};
-use calendar::num::{larger, lesser};
 use calendar::window;
 use frames::places::Row;
 use frames::{kinds, places, years};
 
+#[tactic(auto, unfolding(frames::specs::Numbers::start_month))]
 fn start_month(f: &Row) -> u64
     ensures { result ≡ start_month f.now }
 {
-    let place = window::local_date(f[places::START] / window::DAY);
-    place.month
+    window::local_date(f[places::START] / window::DAY).month
 }
 
 // The frame with what a walk goes by: its start's month, the last month and day of the walk, the counts of its last year.
+#[tactic(auto, unfolding(crate::specs::Steps::readied))]
 fn ready(f: &Row, month: u64, day: u64) -> Row
     ensures { result ≡ readied f.now month day }
 {
@@ -33,13 +33,14 @@ fn ready(f: &Row, month: u64, day: u64) -> Row
 }
 
 // No day of a rule is held before its start.
+#[tactic(auto, using(crate::proofs::Intervals::passed_none, crate::proofs::Intervals::from_start))]
 fn begun(f: &Row, d: u64) -> u64
     ensures { Passed (day_held f.now) d result }
 {
     if f[places::KIND] != kinds::RULE {
         return d;
     }
-    larger(d, f[places::START] / window::DAY)
+    d.max(f[places::START] / window::DAY)
 }
 
 // A walk up over the days from low to end, of one year where positions go by its counts.
@@ -67,8 +68,7 @@ fn year_first(d: u64) -> u64
     requires { d < window_days }
     ensures { result ≡ year_first d }
 {
-    let place = window::local_date(d);
-    window::month_first(place.month / 12 * 12)
+    window::month_first(window::local_date(d).month / 12 * 12)
 }
 
 // And the first after it.
@@ -76,11 +76,10 @@ fn year_past(d: u64) -> u64
     requires { d < window_days }
     ensures { result ≡ year_past d }
 {
-    let place = window::local_date(d);
-    window::month_first(place.month / 12 * 12 + 12)
+    window::month_first(window::local_date(d).month / 12 * 12 + 12)
 }
 
-// A walk up of a yearly rule: year after year, those that its interval leaves out passed at once.
+// A walk up of a yearly rule: year after year, those that its interval leaves out passed at once. A search, and no loop over an index.
 fn years_up(f: &Row, low: u64, end: u64) -> u64
     requires { (low ≤ end) × (end ≤ window_days) × (yearly f.now ≡ true) }
     ensures { Least (day_held f.now) low end result }
@@ -91,7 +90,7 @@ fn years_up(f: &Row, low: u64, end: u64) -> u64
         if end <= first {
             return end;
         }
-        let past = lesser(end, year_past(first));
+        let past = end.min(year_past(first));
         let found = walk_up(f, first, past);
         if found < past {
             return found;
@@ -112,7 +111,7 @@ fn years_down(f: &Row, low: u64, end: u64) -> u64
         if end <= low {
             return low;
         }
-        let first = larger(low, year_first(end - 1));
+        let first = low.max(year_first(end - 1));
         let found = walk_down(f, first, end);
         if first < found {
             return found;
@@ -123,6 +122,7 @@ fn years_down(f: &Row, low: u64, end: u64) -> u64
 }
 
 // The least held day of the days from low to end.
+#[tactic(auto, using(crate::proofs::YearWalks::any_years))]
 fn least_from(f: &Row, low: u64, end: u64) -> u64
     requires { (low < end) × (end ≤ window_days) }
     ensures { Least (day_held f.now) low end result }
@@ -134,6 +134,7 @@ fn least_from(f: &Row, low: u64, end: u64) -> u64
 }
 
 // And one more than the greatest, or low.
+#[tactic(auto, using(crate::proofs::YearWalks::any_years))]
 fn last_from(f: &Row, low: u64, end: u64) -> u64
     requires { (low < end) × (end ≤ window_days) }
     ensures { Last (day_held f.now) low end result }
@@ -148,7 +149,7 @@ fn last_from(f: &Row, low: u64, end: u64) -> u64
 pub fn least_day(f: &Row, low: u64, high: u64) -> u64
     ensures { result ≡ least_day f.now low high }
 {
-    let end = lesser(high, window::DAYS);
+    let end = high.min(window::DAYS);
     if end <= low {
         return low;
     }
@@ -163,7 +164,7 @@ pub fn least_day(f: &Row, low: u64, high: u64) -> u64
 pub fn last_day(f: &Row, low: u64, high: u64) -> u64
     ensures { result ≡ last_day f.now low high }
 {
-    let end = lesser(high, window::DAYS);
+    let end = high.min(window::DAYS);
     if end <= low {
         return low;
     }

@@ -1,7 +1,7 @@
 -- Every compiled plan is taken.
+use Rattle.std.specs.Prelude.{Option, None, Some}
 use mathlib.Core.Bool.{Bool, true, false, not, ◌&&◌}
 use mathlib.Core.List.{List, [], ◌∷◌, map}
-use mathlib.Core.Option.{Option, none, some}
 use mathlib.Core.Path.{◌≡◌, refl, ap, ◌∙◌}
 use Prim.Native.Nat.{ℕ, ◌+◌, ◌<◌}
 use native.Mathlib.Omega.{arith}
@@ -51,8 +51,8 @@ module _ (n : ℕ) (c : Context) (f : Form) (fs : List Form) where
   abbrev on_place : Option Standing → Bool
   on_place o =
       elim o [
-        | none ↦ false
-        | some after ↦ not (is_end (frame_of f)) && (frame_good (frame_of f) && (number_good n (frame_of f) && allowed_from (n + 1) after (map frame_of fs)))
+        | None ↦ false
+        | Some after ↦ not (is_end (frame_of f)) && (frame_good (frame_of f) && (number_good n (frame_of f) && allowed_from (n + 1) after (map frame_of fs)))
       ]
 
   line_allowed : n < 64 → Line c f → allowed_from (n + 1) (standing (context_after c f)) (map frame_of fs) ≡ true

@@ -1,7 +1,7 @@
 -- The frame of a line that is taken passes the load check by itself, and is no end frame.
+use Rattle.std.specs.Prelude.{Some}
 use mathlib.Core.Bool.{Bool, true, false, cond}
 use mathlib.Core.List.{List}
-use mathlib.Core.Option.{some}
 use mathlib.Core.Path.{◌≡◌, refl}
 use Prim.Native.Nat.{ℕ, ◌+◌, ◌-◌}
 use native.Mathlib.Omega.{arith}
@@ -52,7 +52,7 @@ frame_good_lem c (extra t) e w = minute_good t (taken c (extra t) e).range
 frame_good_lem c (except t) e w = minute_good t (taken c (except t) e).range
 
 -- the form of a line's bytes
-pub line_frame_good : (line : List ℕ) (f : Form) → form_of line ≡ some f → (c : Context) → form_refusal c f ≡ 0 → frame_good (frame_of f) ≡ true
+pub line_frame_good : (line : List ℕ) (f : Form) → form_of line ≡ Some f → (c : Context) → form_refusal c f ≡ 0 → frame_good (frame_of f) ≡ true
 line_frame_good line f e c z = frame_good_lem c f z (form_written line f e)
 
 pub frame_not_end : (f : Form) → is_end (frame_of f) ≡ false

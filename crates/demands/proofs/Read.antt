@@ -1,7 +1,7 @@
 -- A sheet that is read, line by line: nothing is wrong with the lines of one that is taken, and the number of a refusal is never 0.
+use Rattle.std.specs.Prelude.{Option, None, Some}
 use mathlib.Core.Bool.{Bool, true, false, cond}
 use mathlib.Core.List.{List, [], ◌∷◌}
-use mathlib.Core.Option.{Option, none, some}
 use mathlib.Core.Path.{◌≡◌, refl, ap, subst}
 use Prim.Native.Nat.{ℕ, suc, ◌+◌, ◌<◌, ◌≤◌}
 use native.Mathlib.Omega.{arith}
@@ -17,7 +17,7 @@ use Rattle.sheet.specs.Refusals.{Context, context_after, bytes_good, form_refusa
 -- a line with nothing wrong where it stands
 pub record Line (c : Context) (f : Form) : Type 0 where
   pub bytes : List ℕ
-  pub form : form_of bytes ≡ some f
+  pub form : form_of bytes ≡ Some f
   pub fine : form_refusal c f ≡ 0
 
 abbrev pub Lines : Context → List Form → Type 0
@@ -42,12 +42,12 @@ module _ (n : ℕ) (c : Context) where
   at_end false false z = let more : n ≡ 0 → ⊥ = eqb-false n 0 z in record { each = tt; count = refl; one = omega arith }
 
   module _ (line : List ℕ) (more : List (List ℕ)) (tail : List ℕ) where
-    line_fine : (f : Form) → form_of line ≡ some f → line_refusal c line ≡ 0 → form_refusal c f ≡ 0
+    line_fine : (f : Form) → form_of line ≡ Some f → line_refusal c line ≡ 0 → form_refusal c f ≡ 0
     unfolding line_refusal form_refusal_or3
     line_fine f o e = rw o at (fine (bytes_good line) 1 _ e).1
 
     -- 2 or 3
-    no_form : form_of line ≡ none → (b : Bool) → bytes_good line ≡ b → 0 < line_refusal c line
+    no_form : form_of line ≡ None → (b : Bool) → bytes_good line ≡ b → 0 < line_refusal c line
     unfolding line_refusal form_refusal_or3
     no_form o true b = rw (b, o) (omega arith)
     no_form o false b = rw b (omega arith)
@@ -62,7 +62,7 @@ module _ (n : ℕ) (c : Context) where
     abbrev on_test : Form → Bool → Sheet
     on_test f t = elim t [ true ↦ following f (rest (context_after c f)) | false ↦ refused (line_refusal c line) (n + 1) ]
 
-    on_test_lem : (f : Form) (t : Bool) → form_of line ≡ some f → eqb (line_refusal c line) 0 ≡ t
+    on_test_lem : (f : Form) (t : Bool) → form_of line ≡ Some f → eqb (line_refusal c line) 0 ≡ t
         → Reads (n + 1) (context_after c f) more (rest (context_after c f))
         → Reads n c (line ∷ more) (on_test f t)
     on_test_lem f true o t others =
@@ -70,9 +70,9 @@ module _ (n : ℕ) (c : Context) where
     on_test_lem f false o t others = let wrong : line_refusal c line ≡ 0 → ⊥ = eqb-false (line_refusal c line) 0 t in omega arith
 
     on_form : (o : Option Form) → form_of line ≡ o → ((d : Context) → Reads (n + 1) d more (rest d))
-        → Reads n c (line ∷ more) (elim o [ none ↦ refused (line_refusal c line) (n + 1) | some f ↦ on_test f (eqb (line_refusal c line) 0) ])
-    on_form none o others = no_form o (bytes_good line) refl
-    on_form (some f) o others = on_test_lem f (eqb (line_refusal c line) 0) o refl (others (context_after c f))
+        → Reads n c (line ∷ more) (elim o [ None ↦ refused (line_refusal c line) (n + 1) | Some f ↦ on_test f (eqb (line_refusal c line) 0) ])
+    on_form None o others = no_form o (bytes_good line) refl
+    on_form (Some f) o others = on_test_lem f (eqb (line_refusal c line) 0) o refl (others (context_after c f))
 
 reads : (whole : List (List ℕ)) (n : ℕ) (c : Context) (tail : List ℕ) → Reads n c whole (read_from n c whole tail)
 unfolding read_from

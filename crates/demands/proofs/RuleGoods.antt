@@ -1,7 +1,7 @@
 -- The frame of a rule that is taken passes the load check.
+use Rattle.std.specs.Prelude.{Option, None, Some, unwrap_or}
 use mathlib.Core.Bool.{Bool, true, false, false≢true}
 use mathlib.Core.List.{List}
-use mathlib.Core.Option.{Option, none, some, get_or}
 use mathlib.Core.Path.{◌≡◌, refl, ◌∙◌}
 use Prim.Native.Nat.{ℕ, ◌-◌, ◌/◌, ◌<◌, ◌≤◌}
 use native.Mathlib.Omega.{arith}
@@ -26,9 +26,9 @@ use Rattle.demands.proofs.Frequencies.{frequency_good_lem}
 use Rattle.demands.proofs.Places.{places_good_lem}
 
 -- without INTERVAL it is 1
-interval_good : (o : Option ℕ) → given_passes (within 1 999) o ≡ true → within 1 999 (get_or o 1) ≡ true
-interval_good none e = refl
-interval_good (some n) e = e
+interval_good : (o : Option ℕ) → given_passes (within 1 999) o ≡ true → within 1 999 (unwrap_or o 1) ≡ true
+interval_good None e = refl
+interval_good (Some n) e = e
 
 -- ---- *last* is in the window, and not before the start
 record Last (start last : ℕ) : Type 0 where
@@ -36,7 +36,7 @@ record Last (start last : ℕ) : Type 0 where
   after : start ≤ last
 
 module _ (start : ℕ) (h : start < window_minutes) where
-  -- the COUNT-th occurrence's day d, or none in the window
+  -- the COUNT-th occurrence's day d, or None in the window
   count_last_lem : (d : ℕ) → start / day_minutes ≤ d → Last start (minute_on start d)
   count_last_lem d l =
       by_order d window_days (λ b. rw (lt-ltb d window_days b) (record { inside = omega arith; after = omega arith }))
@@ -44,19 +44,19 @@ module _ (start : ℕ) (h : start < window_minutes) where
 
   last_good : (test : ℕ → Bool) (end : Option Time) (most : Option ℕ) → given_passes time_in_range end ≡ true → within_until end start ≡ true
       → Last start (last_by (nth_last test start) end most)
-  last_good test (some t) most r k = record { inside = minute_in_window t r; after = leb-true start (minute_of t) k }
-  last_good test none none r k = record { inside = omega arith; after = omega arith }
-  last_good test none (some c) r k =
+  last_good test (Some t) most r k = record { inside = minute_in_window t r; after = leb-true start (minute_of t) k }
+  last_good test None None r k = record { inside = omega arith; after = omega arith }
+  last_good test None (Some c) r k =
       let first : ℕ = start / day_minutes in
       count_last_lem (nth_from test c (window_days - first) first) (nth_lies test c (window_days - first) first).0
 
 -- parts that go together go with the frequency
-by_frequency_lem : (g : Given) (f : Option Frequency) → by_frequency f g ≡ true → clashing (get_or f daily) g ≡ false
+by_frequency_lem : (g : Given) (f : Option Frequency) → by_frequency f g ≡ true → clashing (unwrap_or f daily) g ≡ false
 unfolding by_frequency
-by_frequency_lem g none e = absurd (false≢true e)
-by_frequency_lem g (some f) e = not-true (clashing f g) e
+by_frequency_lem g None e = absurd (false≢true e)
+by_frequency_lem g (Some f) e = not-true (clashing f g) e
 
-no_clash : (ps : List Part) → parts_together ps ≡ true → clashing (get_or (given_of ps).frequency daily) (given_of ps) ≡ false
+no_clash : (ps : List Part) → parts_together ps ≡ true → clashing (unwrap_or (given_of ps).frequency daily) (given_of ps) ≡ false
 no_clash ps t = by_frequency_lem (given_of ps) (given_of ps).frequency (parts_together_lem ps t).frequency
 
 module _ (t : Time) (ps : List Part) (inside : in_range (rule t ps) ≡ true) (go : together (rule t ps) ≡ true) (starts : start_occurs (rule t ps) ≡ true) (w : written (rule t ps) ≡ true) where
@@ -80,13 +80,13 @@ module _ (t : Time) (ps : List Part) (inside : in_range (rule t ps) ≡ true) (g
   last_in_lem : Last start (last_of g start)
   unfolding last_of
   last_in_lem =
-      last_good start in_window_lem (occurs_on (get_or g.frequency daily) g (start / day_minutes)) g.until g.count good.until
+      last_good start in_window_lem (occurs_on (unwrap_or g.frequency daily) g (start / day_minutes)) g.until g.count good.until
       start_good.1
 
   pub rule_frame_good : rule_good (rule_frame g start) ≡ true
   unfolding rule_good rule_frame together
   rule_frame_good =
-      let f : Frequency = get_or g.frequency daily in
+      let f : Frequency = unwrap_or g.frequency daily in
       let first : ℕ = start / day_minutes in
       let a = frame_framed g start in
       both (frequency_good_lem g first (rule_frame g start) good f a (no_clash ps go))

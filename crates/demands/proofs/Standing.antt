@@ -1,6 +1,6 @@
 -- A line in its place has its frame in its place.
+use Rattle.std.specs.Prelude.{Some}
 use mathlib.Core.Bool.{true, false≢true}
-use mathlib.Core.Option.{some}
 use mathlib.Core.Path.{◌≡◌, refl}
 use Prim.Native.Nat.{ℕ}
 use Rattle.framed.proofs.Lines.{taken}
@@ -24,7 +24,7 @@ context b low offset = record { before = b; low = low; offset = offset }
 
 module _ (low offset : ℕ) where
   placed_after : (b : Before) (f : Form) → in_place b f ≡ true → limits_kept (context b low offset) f ≡ true
-      → place (standing_of b low offset) (frame_of f) ≡ some (standing (context_after (context b low offset) f))
+      → place (standing_of b low offset) (frame_of f) ≡ Some (standing (context_after (context b low offset) f))
   unfolding in_place limits_kept place frame_of context_after
   placed_after start (zone s) p l = refl
   placed_after start (change t s) p l = absurd (false≢true p)
@@ -45,5 +45,5 @@ module _ (low offset : ℕ) where
   placed_after lines (extra t) p l = refl
   placed_after lines (except t) p l = refl
 
-pub frame_placed : (c : Context) (f : Form) → form_refusal c f ≡ 0 → place (standing c) (frame_of f) ≡ some (standing (context_after c f))
+pub frame_placed : (c : Context) (f : Form) → form_refusal c f ≡ 0 → place (standing c) (frame_of f) ≡ Some (standing (context_after c f))
 frame_placed c f e = let a = taken c f e in placed_after c.low c.offset c.before f a.place a.limits

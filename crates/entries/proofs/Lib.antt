@@ -1,8 +1,8 @@
 -- The laws of the lists of a rule.
 pub mod Places
 pub mod Entries
+pub mod Gathering
 pub mod Setting
 pub mod Marking
-pub mod Answers
 pub mod Listed
 pub mod Months

@@ -1,7 +1,7 @@
 -- The entries and numbers of a list marked one after the other, as the masks of the whole list.
+use Rattle.std.specs.Prelude.{Option, None, Some}
 use mathlib.Core.Bool.{Bool, true, false, cond, not, ◌&&◌, ◌||◌, and_assoc, and-true, and-false, or_assoc, or-true, or-false}
 use mathlib.Core.List.{List, [], ◌∷◌}
-use mathlib.Core.Option.{Option, none, some}
 use mathlib.Core.Path.{◌≡◌, refl, sym, ap, ◌∙◌}
 use Prim.Native.Nat.{ℕ, zero, suc, ◌+◌, ◌-◌, ◌*◌, ◌/◌, ◌%◌, ◌^◌, ◌<◌, ◌≤◌}
 use native.Mathlib.Omega.{arith}
@@ -25,8 +25,8 @@ use Rattle.sheet.specs.Range.{entry_in_range}
 use Rattle.sheet.specs.Words.{Signed}
 use Rattle.words.specs.Lists.{over_all}
 use Rattle.zone.proofs.Good.{by_order}
-use Rattle.entries.specs.Marks.{ordinal_bit, with_plain, with_ordinal, with_number}
-use Rattle.entries.specs.Lists.{list_given, weekdays_given}
+use Rattle.entries.specs.Marks.{ordinal_bit, with_plain, with_ordinal, take_entry, with_number, take_number}
+use Rattle.entries.specs.Lists.{weekdays_given}
 use Rattle.entries.specs.declared.numbers.Numbers.{Numbers}
 use Rattle.entries.specs.declared.weekdays.Weekdays.{Weekdays}
 use Rattle.entries.proofs.Setting.{set_one, is_at, Between, set_all, set_mask}
@@ -38,12 +38,12 @@ any_same good f g e [] a = refl
 any_same good f g e (x ∷ xs) a = let b = both_true (good x) _ a in rw (e x b.0, any_same good f g e xs b.1) refl
 
 -- a bit that is set where a test holds lies in a range, where it holds for the range alone
-some_between : (low high n : ℕ) (b : Bool) → (b ≡ true → (low ≤ n) × (n < high)) → Between low high (cond b (some n) none)
+some_between : (low high n : ℕ) (b : Bool) → (b ≡ true → (low ≤ n) × (n < high)) → Between low high (cond b (Some n) None)
 some_between low high n true h = record { between = λ k e. let v : n ≡ k = ap value_in e in (omega (arith, h refl), omega (arith, h refl)) }
   where
     value_in : Option ℕ → ℕ
-    value_in none = 0
-    value_in (some v) = v
+    value_in None = 0
+    value_in (Some v) = v
 some_between low high n false h = record { between = λ k e. let z : ◌≡◌ {A = ℕ} 0 1 = cc in absurd (omega arith) }
 
 -- the sign of one end
@@ -51,46 +51,46 @@ abbrev sign_is : Bool → Bool → Bool
 sign_is minus m = cond minus m (not m)
 
 -- ---- numbers of 1 to `most`
+unfoldable pub list_given : ℕ → List Signed → Numbers
+list_given most ns =
+    let mask : Bool → ℕ = λ minus. mask_from (λ i. any_of (signed_as minus i) ns) most 1 in
+    record { good = all_of (λ s. within 1 most s.number) ns; front = mask false; back = mask true }
+
 abbrev pub no_numbers : Numbers
-no_numbers = record { given = true; good = true; front = 0; back = 0 }
+no_numbers = record { good = true; front = 0; back = 0 }
 
 module _ (most : ℕ) where
-  abbrev pub take_number : Numbers → Signed → Numbers
-  take_number m n = with_number most m n.minus n.number
-
   abbrev in_range : Signed → Bool
   in_range n = within 1 most n.number
 
   -- the bit that a number sets at one end
   number_place : Bool → Signed → Option ℕ
-  number_place minus n = cond (in_range n && sign_is minus n.minus) (some n.number) none
+  number_place minus n = cond (in_range n && sign_is minus n.minus) (Some n.number) None
 
-  number_step : (m : Numbers) (n : Signed) → take_number m n
-      ≡ record { given = m.given; good = m.good && in_range n; front = set_one m.front (number_place false n); back = set_one m.back (number_place true n) }
+  number_step : (m : Numbers) (n : Signed) → take_number most m n
+      ≡ record { good = m.good && in_range n; front = set_one m.front (number_place false n); back = set_one m.back (number_place true n) }
   unfolding with_number number_place
   number_step m n = by_cases (in_range n) n.minus
     where
       by_cases : (b sign : Bool)
           → cond {A = Numbers} b
-          (cond sign (record { given = m.given; good = m.good; front = m.front; back = set_one m.back (some n.number) })
-          (record { given = m.given; good = m.good; front = set_one m.front (some n.number); back = m.back }))
-          (record { given = m.given; good = false; front = m.front; back = m.back })
+          (cond sign (record m { back = set_one m.back (Some n.number) }) (record m { front = set_one m.front (Some n.number) }))
+          (record m { good = false })
           ≡ record {
-            given = m.given;
             good = m.good && b;
-            front = set_one m.front (cond (b && sign_is false sign) (some n.number) none);
-            back = set_one m.back (cond (b && sign_is true sign) (some n.number) none);
+            front = set_one m.front (cond (b && sign_is false sign) (Some n.number) None);
+            back = set_one m.back (cond (b && sign_is true sign) (Some n.number) None);
           }
       by_cases true true = rw (and-true m.good) refl
       by_cases true false = rw (and-true m.good) refl
       by_cases false sign = rw (and-false m.good) refl
 
-  numbers_over : (m : Numbers) (ns : List Signed) → over_all take_number m ns
-      ≡ record { given = m.given; good = m.good && all_of in_range ns; front = set_all (number_place false) m.front ns; back = set_all (number_place true) m.back ns }
+  numbers_over : (m : Numbers) (ns : List Signed) → over_all (take_number most) m ns
+      ≡ record { good = m.good && all_of in_range ns; front = set_all (number_place false) m.front ns; back = set_all (number_place true) m.back ns }
   unfolding over_all
   numbers_over m [] = rw (and-true m.good) refl
   numbers_over m (n ∷ ns) =
-      numbers_over (take_number m n) ns ∙ rw (number_step m n, and_assoc m.good (in_range n) (all_of in_range ns)) refl
+      numbers_over (take_number most m n) ns ∙ rw (number_step m n, and_assoc m.good (in_range n) (all_of in_range ns)) refl
 
   module _ (minus : Bool) where
     number_between : (n : Signed) → Between 1 (1 + most) (number_place minus n)
@@ -102,16 +102,16 @@ module _ (most : ℕ) where
     unfolding number_place
     number_at i l h n = by_same (eqb n.number i) refl
       where
-        by_sign : (s : Bool) → n.number ≡ i → is_at i (cond s (some n.number) none) ≡ (s && true)
+        by_sign : (s : Bool) → n.number ≡ i → is_at i (cond s (Some n.number) None) ≡ (s && true)
         by_sign true e = eq-eqb i n.number (sym e)
         by_sign false e = refl
 
-        by_test : (t : Bool) → (n.number ≡ i → ⊥) → is_at i (cond t (some n.number) none) ≡ false
+        by_test : (t : Bool) → (n.number ≡ i → ⊥) → is_at i (cond t (Some n.number) None) ≡ false
         by_test true d = ne_eqb i n.number (λ e. d (sym e))
         by_test false d = refl
 
         by_same : (b : Bool) → eqb n.number i ≡ b
-            → is_at i (cond (in_range n && sign_is minus n.minus) (some n.number) none) ≡ (sign_is minus n.minus && eqb n.number i)
+            → is_at i (cond (in_range n && sign_is minus n.minus) (Some n.number) None) ≡ (sign_is minus n.minus && eqb n.number i)
         by_same true e =
             let v : n.number ≡ i = eqb-true n.number i e in
             rw (e, le-leb 1 n.number (omega arith), le-leb n.number most (omega arith)) (by_sign (sign_is minus n.minus) v)
@@ -124,29 +124,24 @@ module _ (most : ℕ) where
         ∙ mask_from_same (λ i. any_of (λ n. is_at i (number_place minus n)) ns) (λ i. any_of (signed_as minus i) ns) most 1
         (λ i l h. any_same anything (λ n. is_at i (number_place minus n)) (signed_as minus i) (λ n t. number_at i l h n) ns (all_anything ns))
 
-  pub numbers_marked : most < 64 → (ns : List Signed) → over_all take_number no_numbers ns ≡ list_given most ns
+  pub numbers_marked : most < 64 → (ns : List Signed) → over_all (take_number most) no_numbers ns ≡ list_given most ns
   unfolding list_given
   numbers_marked fits ns = numbers_over no_numbers ns ∙ rw (numbers_end false fits ns, numbers_end true fits ns) refl
 
 -- ---- weekdays
-abbrev pub take_entry : Weekdays → Entry → Weekdays
-take_entry m (plain w) = with_plain m w
-take_entry m (ordinal n w) = with_ordinal m n.minus n.number w
-
 abbrev pub no_entries : Weekdays
-no_entries = record { given = true; good = true; ordinal = false; plain = 0; front = 0; back = 0 }
+no_entries = record { good = true; ordinal = false; plain = 0; front = 0; back = 0 }
 
 plain_place : Entry → Option ℕ
-plain_place (plain w) = cond (ltb w 7) (some w) none
-plain_place (ordinal n w) = none
+plain_place (plain w) = cond (ltb w 7) (Some w) None
+plain_place (ordinal n w) = None
 
 ordinal_place : Bool → Entry → Option ℕ
-ordinal_place minus (plain w) = none
-ordinal_place minus (ordinal n w) = cond (within 1 5 n.number && sign_is minus n.minus) (some (ordinal_bit n.number w)) none
+ordinal_place minus (plain w) = None
+ordinal_place minus (ordinal n w) = cond (within 1 5 n.number && sign_is minus n.minus) (Some (ordinal_bit n.number w)) None
 
 entry_step : (m : Weekdays) (x : Entry) → weekday_written x ≡ true → take_entry m x
     ≡ record {
-      given = m.given;
       good = m.good && entry_in_range x;
       ordinal = m.ordinal || has_ordinal x;
       plain = set_one m.plain (plain_place x);
@@ -159,16 +154,15 @@ entry_step m (ordinal n w) e = by_cases (within 1 5 n.number) n.minus
   where
     by_cases : (b sign : Bool)
         → cond {A = Weekdays} b
-        (cond sign (record { given = m.given; good = m.good; ordinal = true; plain = m.plain; front = m.front; back = set_one m.back (some (ordinal_bit n.number w)) })
-        (record { given = m.given; good = m.good; ordinal = true; plain = m.plain; front = set_one m.front (some (ordinal_bit n.number w)); back = m.back }))
-        (record { given = m.given; good = false; ordinal = true; plain = m.plain; front = m.front; back = m.back })
+        (cond sign (record m { ordinal = true; back = set_one m.back (Some (ordinal_bit n.number w)) })
+        (record m { ordinal = true; front = set_one m.front (Some (ordinal_bit n.number w)) }))
+        (record m { good = false; ordinal = true })
         ≡ record {
-          given = m.given;
           good = m.good && b;
           ordinal = m.ordinal || true;
           plain = m.plain;
-          front = set_one m.front (cond (b && sign_is false sign) (some (ordinal_bit n.number w)) none);
-          back = set_one m.back (cond (b && sign_is true sign) (some (ordinal_bit n.number w)) none);
+          front = set_one m.front (cond (b && sign_is false sign) (Some (ordinal_bit n.number w)) None);
+          back = set_one m.back (cond (b && sign_is true sign) (Some (ordinal_bit n.number w)) None);
         }
     by_cases true true = rw (and-true m.good, or-true m.ordinal) refl
     by_cases true false = rw (and-true m.good, or-true m.ordinal) refl
@@ -176,7 +170,6 @@ entry_step m (ordinal n w) e = by_cases (within 1 5 n.number) n.minus
 
 entries_over : (m : Weekdays) (es : List Entry) → all_of weekday_written es ≡ true → over_all take_entry m es
     ≡ record {
-      given = m.given;
       good = m.good && all_of entry_in_range es;
       ordinal = m.ordinal || any_of has_ordinal es;
       plain = set_all plain_place m.plain es;
@@ -230,11 +223,11 @@ module _ (minus : Bool) where
       small : w < 7
       small = ltb-true w 7 e
 
-      by_sign : (s : Bool) → ordinal_bit k w ≡ i → is_at i (cond s (some (ordinal_bit k w)) none) ≡ s
+      by_sign : (s : Bool) → ordinal_bit k w ≡ i → is_at i (cond s (Some (ordinal_bit k w)) None) ≡ s
       by_sign true q = eq-eqb i (ordinal_bit k w) (sym q)
       by_sign false q = refl
 
-      elsewhere : (t : Bool) → (t ≡ true → ordinal_bit k w ≡ i → ⊥) → is_at i (cond t (some (ordinal_bit k w)) none) ≡ false
+      elsewhere : (t : Bool) → (t ≡ true → ordinal_bit k w ≡ i → ⊥) → is_at i (cond t (Some (ordinal_bit k w)) None) ≡ false
       elsewhere true d = ne_eqb i (ordinal_bit k w) (λ q. d refl (sym q))
       elsewhere false d = refl
 
@@ -242,7 +235,7 @@ module _ (minus : Bool) where
       in_range_lem s t = within_range 1 5 k (both_true (within 1 5 k) _ t).0
 
       by_number : (b : Bool) → eqb k (5 - i / 8) ≡ b → w ≡ i % 8
-          → is_at i (cond (within 1 5 k && sign_is minus n.minus) (some (ordinal_bit k w)) none) ≡ (true && (b && sign_is minus n.minus))
+          → is_at i (cond (within 1 5 k && sign_is minus n.minus) (Some (ordinal_bit k w)) None) ≡ (true && (b && sign_is minus n.minus))
       by_number true f q =
           let v : k ≡ 5 - i / 8 = eqb-true _ _ f in
           rw (le-leb 1 k (omega arith), le-leb k 5 (omega arith)) (by_sign (sign_is minus n.minus) (omega arith))
@@ -251,7 +244,7 @@ module _ (minus : Bool) where
           (λ t g. eqb-false k (5 - i / 8) f (omega (arith, in_range_lem (sign_is minus n.minus) t)))
 
       by_weekday : (b : Bool) → eqb w (i % 8) ≡ b
-          → is_at i (cond (within 1 5 k && sign_is minus n.minus) (some (ordinal_bit k w)) none) ≡ (eqb w (i % 8) && (eqb k (5 - i / 8) && sign_is minus n.minus))
+          → is_at i (cond (within 1 5 k && sign_is minus n.minus) (Some (ordinal_bit k w)) None) ≡ (eqb w (i % 8) && (eqb k (5 - i / 8) && sign_is minus n.minus))
       by_weekday true f = rw f (by_number (eqb k (5 - i / 8)) refl (eqb-true _ _ f))
       by_weekday false f =
           rw f

@@ -1,22 +1,26 @@
--- The months of BYMONTH: a list of numbers without a sign, as one of signed numbers.
-use mathlib.Core.Bool.{Bool, true, false}
+-- The months of BYMONTH: numbers without a sign, taken up as signed ones are.
+use mathlib.Core.Bool.{true, false}
 use mathlib.Core.List.{List, [], ◌∷◌}
-use mathlib.Core.Option.{Option, none, some}
 use mathlib.Core.Path.{◌≡◌, refl, ap, ◌∙◌}
-use Prim.Native.Nat.{ℕ, zero, suc, ◌+◌}
+use Prim.Native.Nat.{ℕ, ◌+◌}
+use native.Mathlib.Omega.{arith}
 use lib.Dec.{eqb}
-use lib.ListN.{length, get_or}
+use lib.ListN.{length}
 use Rattle.calendar.proofs.Every.{same_either_way}
 use Rattle.calendar.specs.Below.{within, any_of, all_of}
 use Rattle.framed.proofs.Ends.{signed_as}
 use Rattle.framed.specs.Framed.{month_mask}
 use Rattle.masks.proofs.MaskFroms.{mask_from_same, mask_none}
 use Rattle.sheet.specs.Words.{Signed}
-use Rattle.words.specs.Answers.{made_read, number_read, signed_read}
-use Rattle.words.specs.Lists.{before, list_at}
-use Rattle.words.specs.Reads.{number_at, with_sign}
-use Rattle.words.specs.declared.cursor.Number.{Number}
-use Rattle.entries.specs.Lists.{number_in, list_read, list_given, list_as, months_read, months_given, months_as}
+use Rattle.words.specs.Answers.{number_read}
+use Rattle.words.specs.Lists.{over_all}
+use Rattle.words.specs.Reads.{number_at}
+use Rattle.entries.specs.Gathered.{gathered, ended}
+use Rattle.entries.specs.Lists.{months_read, months_given, months_as}
+use Rattle.entries.specs.Marks.{take_number, take_month}
+use Rattle.entries.specs.declared.numbers.Numbers.{Numbers}
+use Rattle.entries.proofs.Gathering.{step_of, gathered_list, made_same}
+use Rattle.entries.proofs.Marking.{list_given, no_numbers, numbers_marked}
 
 abbrev unsigned : ℕ → Signed
 unsigned n = record { minus = false; number = n }
@@ -25,32 +29,10 @@ abbrev unsigneds : List ℕ → List Signed
 unsigneds [] = []
 unsigneds (n ∷ ns) = unsigned n ∷ unsigneds ns
 
--- ---- as they are read
-before_made : (n : ℕ) (o : Option (List ℕ × ℕ)) → before (unsigned n) (made_read unsigneds o) ≡ made_read unsigneds (before n o)
-before_made n none = refl
-before_made n (some r) = refl
-
-abbrev numbers_from : List ℕ → ℕ → ℕ → Option (List ℕ × ℕ)
-numbers_from s left at = list_at (λ (e : ℕ). number_read (number_at s e)) 44 s left at
-
-abbrev Made : List ℕ → ℕ → ℕ → Type 0
-Made s left at = list_at (λ (e : ℕ). signed_read (number_in false s e)) 44 s left at ≡ made_read unsigneds (numbers_from s left at)
-
-list_made : (s : List ℕ) (left at : ℕ) → Made s left at
-unfolding list_at
-list_made s zero at = refl
-list_made s (suc left) at = by_number (number_at s at) refl (list_made s left)
-  where
-    by_comma : (n e : ℕ) → number_read (number_at s at) ≡ some (n, e) → signed_read (number_in false s at) ≡ some (unsigned n, e)
-        → (b : Bool) → eqb (get_or s e 0) 44 ≡ b → ((at : ℕ) → Made s left at) → Made s (suc left) at
-    by_comma n e p q true f again =
-        rw (list_at, p, q, f) (ap (before (unsigned n)) (again (e + 1)) ∙ before_made n (numbers_from s left (e + 1)))
-    by_comma n e p q false f again = rw (list_at, p, q, f) refl
-
-    by_number : (x : Number) → number_at s at ≡ x → ((at : ℕ) → Made s left at) → Made s (suc left) at
-    by_number (Number.Is n c) q again =
-        by_comma n c.at (ap number_read q) (ap (λ (y : Number). signed_read (with_sign false y)) q) (eqb (get_or s c.at 0) 44) refl again
-    by_number Number.Not q again = rw (list_at, q) refl
+months_over : (m : Numbers) (ms : List ℕ) → over_all take_month m ms ≡ over_all (take_number 12) m (unsigneds ms)
+unfolding over_all
+months_over m [] = refl
+months_over m (n ∷ ms) = months_over (take_month m n) ms
 
 -- ---- as masks
 all_unsigned : (most : ℕ) (ms : List ℕ) → all_of (λ s. within 1 most s.number) (unsigneds ms) ≡ all_of (within 1 most) ms
@@ -74,10 +56,10 @@ months_given_lem ms =
       mask_none (λ i. any_of (signed_as true i) (unsigneds ms)) 12 1 (λ i l h. back_unsigned i ms),
     ) refl
 
-by_list : (o : Option (List ℕ × ℕ)) → list_as 12 (made_read unsigneds o) ≡ months_as o
-by_list none = refl
-by_list (some r) = rw (months_given_lem r.0) refl
-
-pub months_as_lem : (s : List ℕ) (at : ℕ) → list_as 12 (list_read false s at) ≡ months_as (months_read s at)
-unfolding list_read months_read
-months_as_lem s at = rw (list_made s (length s + 1) at) (by_list (numbers_from s (length s + 1) at))
+pub months_taken : (s : List ℕ) (at : ℕ)
+    → ended (gathered (step_of take_month (λ (e : ℕ). number_read (number_at s e))) 44 s (length s + 1) no_numbers at) ≡ months_as (months_read s at)
+unfolding months_read
+months_taken s at =
+    ap ended
+    (gathered_list take_month (λ (e : ℕ). number_read (number_at s e)) 44 s (length s + 1) no_numbers at
+    ∙ made_same (over_all take_month no_numbers) months_given _ (λ ms e q. months_over no_numbers ms ∙ numbers_marked 12 (omega arith) (unsigneds ms) ∙ months_given_lem ms))

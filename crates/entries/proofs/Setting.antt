@@ -1,7 +1,7 @@
 -- Bits set one after the other, as the mask of the numbers that were set.
+use Rattle.std.specs.Prelude.{Option, None, Some}
 use mathlib.Core.Bool.{Bool, false, ◌&&◌, ◌||◌, or_assoc, or-false}
 use mathlib.Core.List.{List, [], ◌∷◌}
-use mathlib.Core.Option.{Option, none, some}
 use mathlib.Core.Path.{◌≡◌, refl, sym, ap, ◌∙◌}
 use Prim.Native.Nat.{ℕ, ◌+◌, ◌^◌, ◌<◌, ◌≤◌}
 use native.Mathlib.Omega.{arith}
@@ -18,16 +18,16 @@ use Rattle.zone.proofs.Good.{by_order}
 
 -- the bit that an element sets, if it sets one
 abbrev pub set_one : ℕ → Option ℕ → ℕ
-set_one m none = m
-set_one m (some n) = with_bit m n
+set_one m None = m
+set_one m (Some n) = with_bit m n
 
 abbrev pub is_at : ℕ → Option ℕ → Bool
-is_at i none = false
-is_at i (some n) = eqb i n
+is_at i None = false
+is_at i (Some n) = eqb i n
 
 -- all bits that are set lie in a range
 pub record Between (low high : ℕ) (o : Option ℕ) : Type 0 where
-  pub between : (n : ℕ) → o ≡ some n → (low ≤ n) × (n < high)
+  pub between : (n : ℕ) → o ≡ Some n → (low ≤ n) × (n < high)
 
 module _ {A : Type 0} (place : A → Option ℕ) where
   abbrev pub set_all : ℕ → List A → ℕ
@@ -35,12 +35,12 @@ module _ {A : Type 0} (place : A → Option ℕ) where
 
   module _ (low high : ℕ) (word : high ≤ 64) (inside : (x : A) → Between low high (place x)) where
     one_bit : (m i : ℕ) (o : Option ℕ) → Between low high o → bit (set_one m o) i ≡ (bit m i || is_at i o)
-    one_bit m i none b = sym (or-false (bit m i))
-    one_bit m i (some n) b = bit_of_with_bit m n i (omega (arith, b.between n refl))
+    one_bit m i None b = sym (or-false (bit m i))
+    one_bit m i (Some n) b = bit_of_with_bit m n i (omega (arith, b.between n refl))
 
     one_below : (m : ℕ) (o : Option ℕ) → Between low high o → m < 2 ^ high → set_one m o < 2 ^ high
-    one_below m none b h = h
-    one_below m (some n) b h =
+    one_below m None b h = h
+    one_below m (Some n) b h =
         let r = b.between n refl in
         with_bit_below m n high h r.1
 
@@ -58,8 +58,8 @@ module _ {A : Type 0} (place : A → Option ℕ) where
     set_below m (x ∷ xs) h = set_below (set_one m (place x)) xs (one_below m (place x) (inside x) h)
 
     not_low : (i : ℕ) (o : Option ℕ) → Between low high o → i < low → is_at i o ≡ false
-    not_low i none b l = refl
-    not_low i (some n) b l = ne_eqb i n (λ (e : i ≡ n). omega (arith, b.between n refl))
+    not_low i None b l = refl
+    not_low i (Some n) b l = ne_eqb i n (λ (e : i ≡ n). omega (arith, b.between n refl))
 
     none_low : (xs : List A) (i : ℕ) → i < low → any_of (λ x. is_at i (place x)) xs ≡ false
     none_low [] i l = refl

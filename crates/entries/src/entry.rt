@@ -4,43 +4,34 @@ ghost use Rattle.sheet.specs.Form.{weekday_words};
 ghost use Rattle.words.specs.Answers.{one_at, named_as};
 ghost use Rattle.entries.specs.Lists.{entry_as, entry_read};
 
-use words::choice::Named;
 use words::cursor::{Cursor, Signed};
 
-// A weekday, or an ordinal by its sign and number and a weekday, and the place after it.
+// A weekday, and its ordinal where it has one.
 #[derive(Clone, Copy)]
 pub(crate) enum Entry {
-    Plain(u64, Cursor),
-    Ordinal(bool, u64, u64, Cursor),
-    Not,
+    Plain(u64),
+    Ordinal(Signed, u64),
 }
 
-// A weekday, Sunday 0.
-fn weekday_at(s: &[u8], c: Cursor) -> Named
+// Sunday first.
+const WEEKDAYS: [&[u8]; 7] = [b"SU", b"MO", b"TU", b"WE", b"TH", b"FR", b"SA"];
+
+#[inline(always)]
+#[tactic(auto, unfolding(sheet::specs::Form::weekday_words))]
+fn weekday_at(s: &[u8], c: Cursor) -> Option<(u64, Cursor)>
     ensures { result ≡ named_as (one_at weekday_words s.now c.at) }
 {
-    let mut n = Named::Not;
-    n = n.or_word(s, c, b"SU", 0);
-    n = n.or_word(s, c, b"MO", 1);
-    n = n.or_word(s, c, b"TU", 2);
-    n = n.or_word(s, c, b"WE", 3);
-    n = n.or_word(s, c, b"TH", 4);
-    n = n.or_word(s, c, b"FR", 5);
-    n = n.or_word(s, c, b"SA", 6);
-    n
+    c.one_of(s, &WEEKDAYS)
 }
 
-pub(crate) fn entry_at(s: &[u8], c: Cursor) -> Entry
+#[tactic(auto, using(words::proofs::Named::named_is, words::proofs::Named::named_not, crate::proofs::Places::entry_plain, crate::proofs::Places::entry_not))]
+pub(crate) fn entry_at(s: &[u8], c: Cursor) -> Option<(Entry, Cursor)>
     ensures { result ≡ entry_as (entry_read s.now c.at) }
 {
-    if let Named::Is(weekday, next) = weekday_at(s, c) {
-        return Entry::Plain(weekday, next);
+    if let Some((weekday, next)) = weekday_at(s, c) {
+        return Some((Entry::Plain(weekday), next));
     }
-    let Signed::Is(minus, number, next) = c.signed(s) else {
-        return Entry::Not;
-    };
-    let Named::Is(weekday, after) = weekday_at(s, next) else {
-        return Entry::Not;
-    };
-    Entry::Ordinal(minus, number, weekday, after)
+    let (number, next) = c.signed(s)?;
+    let (weekday, after) = weekday_at(s, next)?;
+    Some((Entry::Ordinal(number, weekday), after))
 }

@@ -2,5 +2,6 @@
 #![tactic(auto)]
 
 mod entry;
+pub mod list;
 pub mod numbers;
 pub mod weekdays;

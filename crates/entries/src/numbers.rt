@@ -1,10 +1,13 @@
 // "`BYMONTHDAY=` a comma list of −31 to 31 without 0; `BYSETPOS=` likewise"; T-01: "`BYMONTH=` 1 to 12, a comma list".
-ghost use Rattle.std.specs.Prelude.{◌≡◌, ◌<◌};
-ghost use Rattle.entries.specs.Lists.{number_in, list_as, list_read, numbers_as, numbers_read, months_as, months_read};
-ghost use Rattle.entries.specs.Marks.{with_number};
+ghost use Rattle.std.specs.Prelude.{◌≡◌};
+ghost use Rattle.words.specs.Answers.{made_read, number_read, signed_read};
+ghost use Rattle.words.specs.Reads.{number_at, signed_at};
+ghost use Rattle.entries.specs.Gathered.{ended};
+ghost use Rattle.entries.specs.Lists.{numbers_as, numbers_read, months_as, months_read};
+ghost use Rattle.entries.specs.Marks.{with_number, take_number, take_month};
 
-use calendar::num::lies_within;
-use words::cursor::{COMMA, Cursor, Number, Signed};
+use crate::list::gather;
+use words::cursor::{COMMA, Cursor, Signed};
 
 const MOST_DAY: u64 = 31;
 
@@ -13,79 +16,71 @@ const MOST_MONTH: u64 = 12;
 // Bit n of the front for n, of the back for −n.
 #[derive(Clone, Copy)]
 pub struct Numbers {
-    pub given: bool,
+    // All are in range. One that is not does not end the reading: a later form error comes first.
     pub good: bool,
     pub front: u64,
     pub back: u64,
 }
 
-#[derive(Clone, Copy)]
-pub enum Listed {
-    Is(Numbers, Cursor),
-    Not,
-}
+const NO_NUMBERS: Numbers = Numbers {
+    good: true,
+    front: 0,
+    back: 0,
+};
 
-fn with_number(m: Numbers, most: u64, minus: bool, number: u64) -> Numbers
-    ensures { result ≡ with_number most m minus number }
+#[tactic(auto, unfolding(crate::specs::Marks::with_number))]
+fn with_number(m: Numbers, most: u64, n: Signed) -> Numbers
+    ensures { result ≡ with_number most m n.minus n.number }
 {
-    let mut r = m;
-    if !lies_within(1, most, number) {
-        r.good = false;
-        return r;
+    if !(1..=most).contains(&n.number) {
+        return Numbers { good: false, ..m };
     }
-    if minus {
-        r.back = masks::with_bit(m.back, number);
-    } else {
-        r.front = masks::with_bit(m.front, number);
-    }
-    r
-}
-
-// A number, with a sign or none where signs may stand.
-fn number_at(s: &[u8], c: Cursor, signs: bool) -> Signed
-    ensures { result ≡ number_in signs s.now c.at }
-{
-    if signs {
-        return c.signed(s);
-    }
-    let Number::Is(number, next) = c.number(s) else {
-        return Signed::Not;
-    };
-    Signed::Is(false, number, next)
-}
-
-// The numbers from a cursor on, 1 to `most` in range.
-fn list_at(s: &[u8], c: Cursor, signs: bool, most: u64) -> Listed
-    requires { most < 64 }
-    ensures { result ≡ list_as most (list_read signs s.now c.at) }
-{
-    let mut at = c.at;
-    let mut m = Numbers {
-        given: true,
-        good: true,
-        front: 0,
-        back: 0,
-    };
-    loop {
-        let Signed::Is(minus, number, next) = number_at(s, Cursor { at }, signs) else {
-            return Listed::Not;
+    if n.minus {
+        return Numbers {
+            back: masks::with_bit(m.back, n.number),
+            ..m
         };
-        m = with_number(m, most, minus, number);
-        if next.byte(s) != COMMA {
-            return Listed::Is(m, next);
-        }
-        at = next.at + 1;
+    }
+    Numbers {
+        front: masks::with_bit(m.front, n.number),
+        ..m
     }
 }
 
-pub fn numbers_at(s: &[u8], c: Cursor) -> Listed
+pub fn numbers_at(s: &[u8], c: Cursor) -> Option<(Numbers, Cursor)>
     ensures { result ≡ numbers_as (numbers_read s.now c.at) }
 {
-    list_at(s, c, true, MOST_DAY)
+    gather(
+        s,
+        COMMA,
+        NO_NUMBERS,
+        c,
+        |m, c|
+            ensures { result ≡ ended (made_read (take_number 31 m) (signed_read (signed_at s.entry.now c.at))) }
+        {
+            let (n, next) = c.signed(s)?;
+            Some((with_number(m, MOST_DAY, n), next))
+        },
+    )
 }
 
-pub fn months_at(s: &[u8], c: Cursor) -> Listed
+pub fn months_at(s: &[u8], c: Cursor) -> Option<(Numbers, Cursor)>
     ensures { result ≡ months_as (months_read s.now c.at) }
 {
-    list_at(s, c, false, MOST_MONTH)
+    gather(
+        s,
+        COMMA,
+        NO_NUMBERS,
+        c,
+        |m, c|
+            ensures { result ≡ ended (made_read (take_month m) (number_read (number_at s.entry.now c.at))) }
+        {
+            let (number, next) = c.number(s)?;
+            let n = Signed {
+                minus: false,
+                number,
+            };
+            Some((with_number(m, MOST_MONTH, n), next))
+        },
+    )
 }

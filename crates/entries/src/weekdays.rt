@@ -1,18 +1,20 @@
 // "`BYDAY=` a comma list of weekdays, each with an optional signed ordinal."
 ghost use Rattle.std.specs.Prelude.{◌≡◌};
-ghost use Rattle.entries.specs.Lists.{days_as, days_read};
-ghost use Rattle.entries.specs.Marks.{with_plain, with_ordinal, entry_marks};
+ghost use Rattle.words.specs.Answers.{made_read};
+ghost use Rattle.entries.specs.Gathered.{ended};
+ghost use Rattle.entries.specs.Lists.{entry_read, days_as, days_read};
+ghost use Rattle.entries.specs.Marks.{with_plain, with_ordinal, with_entry, take_entry};
 
 use crate::entry::{Entry, entry_at};
-use calendar::num::lies_within;
-use words::cursor::{COMMA, Cursor};
+use crate::list::gather;
+use words::cursor::{COMMA, Cursor, Signed};
 
 const MOST_ORDINAL: u64 = 5;
 
 // The weekdays without an ordinal as a mask, those with one as five of a byte each, from the front and from the end.
 #[derive(Clone, Copy)]
 pub struct Weekdays {
-    pub given: bool,
+    // All ordinals are in range. One that is not does not end the reading: a later form error comes first.
     pub good: bool,
     // Some entry has an ordinal.
     pub ordinal: bool,
@@ -21,76 +23,67 @@ pub struct Weekdays {
     pub back: u64,
 }
 
-#[derive(Clone, Copy)]
-pub enum Days {
-    Is(Weekdays, Cursor),
-    Not,
-}
+const NO_WEEKDAYS: Weekdays = Weekdays {
+    good: true,
+    ordinal: false,
+    plain: 0,
+    front: 0,
+    back: 0,
+};
 
+#[tactic(auto, unfolding(crate::specs::Marks::with_plain))]
 fn with_plain(m: Weekdays, weekday: u64) -> Weekdays
     ensures { result ≡ with_plain m weekday }
 {
     Weekdays {
-        given: m.given,
-        good: m.good,
-        ordinal: m.ordinal,
         plain: masks::with_bit(m.plain, weekday),
-        front: m.front,
-        back: m.back,
+        ..m
     }
 }
 
-fn with_ordinal(m: Weekdays, minus: bool, number: u64, weekday: u64) -> Weekdays
-    ensures { result ≡ with_ordinal m minus number weekday }
+#[tactic(auto, unfolding(crate::specs::Marks::with_ordinal))]
+fn with_ordinal(m: Weekdays, n: Signed, weekday: u64) -> Weekdays
+    ensures { result ≡ with_ordinal m n.minus n.number weekday }
 {
-    let mut r = m;
-    r.ordinal = true;
-    if !lies_within(1, MOST_ORDINAL, number) {
-        r.good = false;
-        return r;
+    let m = Weekdays { ordinal: true, ..m };
+    if !(1..=MOST_ORDINAL).contains(&n.number) {
+        return Weekdays { good: false, ..m };
     }
-    let place = 8 * (MOST_ORDINAL - number) + weekday % 8;
-    if minus {
-        r.back = masks::with_bit(m.back, place);
-    } else {
-        r.front = masks::with_bit(m.front, place);
+    let place = 8 * (MOST_ORDINAL - n.number) + weekday % 8;
+    if n.minus {
+        return Weekdays {
+            back: masks::with_bit(m.back, place),
+            ..m
+        };
     }
-    r
+    Weekdays {
+        front: masks::with_bit(m.front, place),
+        ..m
+    }
 }
 
-// An entry marked.
-fn entry_marks(m: Weekdays, x: Entry) -> Days
-    ensures { result ≡ entry_marks m x }
+fn with_entry(m: Weekdays, x: Entry) -> Weekdays
+    ensures { result ≡ with_entry m x }
 {
     match x {
-        Entry::Plain(weekday, c) => Days::Is(with_plain(m, weekday), c),
-        Entry::Ordinal(minus, number, weekday, c) => {
-            Days::Is(with_ordinal(m, minus, number, weekday), c)
-        }
-        Entry::Not => Days::Not,
+        Entry::Plain(weekday) => with_plain(m, weekday),
+        Entry::Ordinal(n, weekday) => with_ordinal(m, n, weekday),
     }
 }
 
-pub fn days_at(s: &[u8], c: Cursor) -> Days
+pub fn days_at(s: &[u8], c: Cursor) -> Option<(Weekdays, Cursor)>
     ensures { result ≡ days_as (days_read s.now c.at) }
 {
-    let mut at = c.at;
-    let mut m = Weekdays {
-        given: true,
-        good: true,
-        ordinal: false,
-        plain: 0,
-        front: 0,
-        back: 0,
-    };
-    loop {
-        let Days::Is(marks, next) = entry_marks(m, entry_at(s, Cursor { at })) else {
-            return Days::Not;
-        };
-        if next.byte(s) != COMMA {
-            return Days::Is(marks, next);
-        }
-        at = next.at + 1;
-        m = marks;
-    }
+    gather(
+        s,
+        COMMA,
+        NO_WEEKDAYS,
+        c,
+        |m, c|
+            ensures { result ≡ ended (made_read (take_entry m) (entry_read s.entry.now c.at)) }
+        {
+            let (x, next) = entry_at(s, c)?;
+            Some((with_entry(m, x), next))
+        },
+    )
 }

@@ -1,4 +1,5 @@
 -- The inside's answer, asked of the asked instant moved up, is the answer over signed numbers.
+use Rattle.std.specs.Prelude.{Option, Some, None, Result, Ok, Err}
 use mathlib.Core.Bool.{Bool, true, false, cond}
 use mathlib.Core.List.{List, [], ◌∷◌}
 use mathlib.Core.Path.{◌≡◌, refl, sym, ap, ◌∙◌}
@@ -9,12 +10,13 @@ use lib.Dec.{T, leb, ltb}
 use lib.IntN.{ℤ, pos, negsuc}
 use lib.Signed.{lt_z}
 use Rattle.compile.specs.Answers.{compiled_as}
-use Rattle.compile.specs.Compiled.{Compiled, plan as made, refusal}
+use Rattle.compile.specs.Compiled.{Compiled, plan as made, refusal, compile}
+use Rattle.compile.proofs.Refusing.{refusal_numbered}
 use Rattle.load.specs.Loads.{loaded_as}
 use Rattle.next.proofs.Ready.{taken_good, plan_instants_range}
 use Rattle.next.specs.Instants.{Next, Previous, NextOf, PreviousOf}
-use Rattle.next.specs.Plans.{AnswerBy, NextIn, PreviousIn, answer_of, found_of, local_in, local_of, local_by as local_inside, offset_in, offset_by as offset_inside}
-use Rattle.next.specs.declared.Answer.{Answer}
+use Rattle.next.specs.Plans.{AnswerBy, NextIn, PreviousIn, local_in, local_by as local_inside, offset_in, offset_by as offset_inside}
+use Rattle.load.specs.declared.NotTaken.{NotTaken}
 use Rattle.plan.specs.Plan.{PlanInstant, plan_zone}
 use Rattle.plan.specs.Taken.{Loaded, taken, refused, load, loaded_number, loaded_line}
 use Rattle.plan.specs.declared.Frame.{Frame}
@@ -23,7 +25,6 @@ use Rattle.zone.proofs.Good.{good_head, good_zone, offset_range}
 use Rattle.zone.specs.Stretches.{instant_of_local}
 use Rattle.zone.specs.Zone.{offset_from, offset_at, transitions_good, zone_good}
 use Rattle.zone.specs.declared.Transition.{Transition}
-use Rattle.zone.specs.declared.stretch.Instant.{Instant}
 use Rattle.evandrusk.specs.Sheets.{compiled_for, compile_answer}
 use Rattle.evandrusk.specs.Plans.{Nearest, NearestBy, NextAnswer, PreviousAnswer, SignedInstant, answer_as, check_answer, checked_as, later, local_answer, local_as, local_by, local_found, minute_of, offset_answer, offset_as, offset_by, offset_with, moved_down, signed_offset}
 use Rattle.evandrusk.specs.Plans.NearestFound.{found, none}
@@ -74,29 +75,29 @@ module _ (fs : List Frame) (good : zone_good (plan_zone fs) ≡ true) where
             (ltb-true _ _ (sym (in_order_lem i s.inside n.is s.is) ∙ (rw s.becomes b)));
       }
 
-next_by : (l : Loaded) → ((fs : List Frame) → l ≡ taken fs → zone_good (plan_zone fs) ≡ true) → (asked : ℤ) (a : Answer)
+next_by : (l : Loaded) → ((fs : List Frame) → l ≡ taken fs → zone_good (plan_zone fs) ≡ true) → (asked : ℤ) (a : Result (Option ℕ) NotTaken)
     → AnswerBy (λ (fs : List Frame). NextOf (PlanInstant fs) (bias_instant asked)) l a → NearestBy lt_z l asked (answer_as a)
 unfolding AnswerBy NextOf NearestBy
-next_by (taken fs) good asked (Answer.Is i) a = found (unbias_instant i) (next_signed fs (good fs refl) asked i a) refl
-next_by (taken fs) good asked Answer.Never a =
+next_by (taken fs) good asked (Ok (Some i)) a = found (unbias_instant i) (next_signed fs (good fs refl) asked i a) refl
+next_by (taken fs) good asked (Ok None) a =
     none (λ z s t. a s.inside s.is (inside_later fs (good fs refl) asked z s t)) refl
-next_by (taken fs) good asked (Answer.Refused k) a = absurd a
+next_by (taken fs) good asked (Err e) a = absurd a
 next_by (refused k) good asked a e = ap answer_as e
 
-previous_by : (l : Loaded) → ((fs : List Frame) → l ≡ taken fs → zone_good (plan_zone fs) ≡ true) → (asked : ℤ) (a : Answer)
+previous_by : (l : Loaded) → ((fs : List Frame) → l ≡ taken fs → zone_good (plan_zone fs) ≡ true) → (asked : ℤ) (a : Result (Option ℕ) NotTaken)
     → AnswerBy (λ (fs : List Frame). PreviousOf (PlanInstant fs) (bias_instant asked)) l a → NearestBy later l asked (answer_as a)
 unfolding AnswerBy PreviousOf NearestBy
-previous_by (taken fs) good asked (Answer.Is i) a = found (unbias_instant i) (previous_signed fs (good fs refl) asked i a) refl
-previous_by (taken fs) good asked Answer.Never a =
+previous_by (taken fs) good asked (Ok (Some i)) a = found (unbias_instant i) (previous_signed fs (good fs refl) asked i a) refl
+previous_by (taken fs) good asked (Ok None) a =
     none (λ z s t. a s.inside s.is (inside_earlier fs (good fs refl) asked z s t)) refl
-previous_by (taken fs) good asked (Answer.Refused k) a = absurd a
+previous_by (taken fs) good asked (Err e) a = absurd a
 previous_by (refused k) good asked a e = ap answer_as e
 
-pub next_edge : (plan : List ℕ) (asked : ℤ) (a : Answer) → NextIn plan (bias_instant asked) a → NextAnswer plan asked (answer_as a)
+pub next_edge : (plan : List ℕ) (asked : ℤ) (a : Result (Option ℕ) NotTaken) → NextIn plan (bias_instant asked) a → NextAnswer plan asked (answer_as a)
 unfolding NextIn NextAnswer
 next_edge plan asked a = next_by (load plan) (taken_good plan) asked a
 
-pub previous_edge : (plan : List ℕ) (asked : ℤ) (a : Answer) → PreviousIn plan (bias_instant asked) a
+pub previous_edge : (plan : List ℕ) (asked : ℤ) (a : Result (Option ℕ) NotTaken) → PreviousIn plan (bias_instant asked) a
     → PreviousAnswer plan asked (answer_as a)
 unfolding PreviousIn PreviousAnswer
 previous_edge plan asked a = previous_by (load plan) (taken_good plan) asked a
@@ -106,9 +107,9 @@ local_by_lem : (l : Loaded) (z : ℤ) → local_as (local_inside l (minute_of z)
 unfolding local_inside local_by instant_of_local
 local_by_lem (taken fs) (pos m) = by_instant (instant_of_local (plan_zone fs) m)
   where
-    by_instant : (i : Instant) → local_as (local_of (answer_of (found_of i))) ≡ local_found i
-    by_instant (Instant.Is i) = refl
-    by_instant Instant.Outside = refl
+    by_instant : (i : Option ℕ) → local_as (Ok i) ≡ local_found i
+    by_instant (Some i) = refl
+    by_instant None = refl
 local_by_lem (taken fs) (negsuc n) = refl
 local_by_lem (refused k) z = refl
 
@@ -157,6 +158,10 @@ check_edge plan = by_load (load plan)
     by_load (taken fs) = refl
     by_load (refused k) = refl
 
-pub compile_edge : (x : Compiled) → compiled_for (compiled_as x) ≡ compile_answer x
-compile_edge (made p) = refl
-compile_edge (refusal number line at size) = refl
+-- compiling: a refusal's number is that of its reason
+pub compile_edge : (text : List ℕ) (room : ℕ) → compiled_for (compiled_as (compile text room)) ≡ compile_answer (compile text room)
+compile_edge text room = by_compiled (compile text room) refl
+  where
+    by_compiled : (x : Compiled) → compile text room ≡ x → compiled_for (compiled_as x) ≡ compile_answer x
+    by_compiled (made p) e = refl
+    by_compiled (refusal number line at size) e = rw (refusal_numbered text room number line at size e)

@@ -1,16 +1,16 @@
 -- The order of signed instants is that of the inside: the asked instant is held to a day around the window, and no plan's instant sees that.
-use mathlib.Core.Bool.{true, false, true≢false}
-use mathlib.Core.Path.{◌≡◌, refl, sym, ap, ◌∙◌}
+use mathlib.Core.Bool.{false, true≢false}
+use mathlib.Core.Path.{◌≡◌, sym, ap, ◌∙◌}
 use Prim.Native.Nat.{ℕ, ◌+◌, ◌-◌, ◌<◌, ◌≤◌, min}
 use native.Mathlib.Omega.{arith}
-use borrow.Author.Tests.{ltb-true, ltb-false, lt-ltb, le-ltb, le-leb, lt-leb}
+use borrow.Author.Tests.{ltb-false, lt-ltb, le-ltb, le-leb, lt-leb}
 use lib.Dec.{leb, ltb}
 use lib.IntN.{ℤ, pos, negsuc}
 use lib.Signed.{lt_z, le_z}
 use Rattle.signed.proofs.Laws.{bias_of_unbias_instant}
-use Rattle.signed.specs.Bias.{natural_of, bias_instant, unbias_instant}
+use Rattle.signed.specs.Bias.{bias_instant, unbias_instant}
 use Rattle.zone.proofs.Good.{by_order}
-use Rattle.evandrusk.specs.Plans.{minute_of, moved_down}
+use Rattle.evandrusk.specs.Plans.{moved_down}
 
 -- two tests of the same outcome
 same_test : (a b c d : ℕ) → (a < b → c < d) → (b ≤ a → d ≤ c) → ltb a b ≡ ltb c d
@@ -73,12 +73,3 @@ neither_below (pos m) (pos n) p q = ap pos (omega (arith, ltb-false m n p, ltb-f
 neither_below (negsuc m) (negsuc n) p q = ap negsuc (omega (arith, ltb-false n m p, ltb-false m n q))
 neither_below (pos m) (negsuc n) p q = absurd (true≢false q)
 neither_below (negsuc m) (pos n) p q = absurd (true≢false p)
-
--- a signed local minute by its sign
-pub minute_negative : (z : ℤ) → lt_z z (pos 0) ≡ true → minute_of z ≡ 52596000
-minute_negative (pos m) h = absurd (omega (arith, ltb-true m 0 h))
-minute_negative (negsuc n) h = refl
-
-pub minute_natural : (z : ℤ) → lt_z z (pos 0) ≡ false → minute_of z ≡ natural_of z
-minute_natural (pos m) h = refl
-minute_natural (negsuc n) h = absurd (true≢false h)

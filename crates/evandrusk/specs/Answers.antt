@@ -1,26 +1,25 @@
 -- "Refusal numbers": 0 is taken; 5 is a date, a day or an ISO date out of range, with zeros for every other number.
-use Rattle.std.specs.Prelude.{ℤ, pos}
+use Rattle.std.specs.Prelude.{ℕ, ℤ, pos, Option, Some, None}
 use Rattle.calendar.specs.Calendar.{day_of_date, date_of_day}
 use Rattle.calendar.specs.Iso.{day_of_iso, iso_of_day}
-use Rattle.calendar.specs.declared.date.Dated.{Dated}
-use Rattle.calendar.specs.declared.date.Day.{Day}
-use Rattle.calendar.specs.declared.iso.IsoDated.{IsoDated}
+use Rattle.calendar.specs.declared.date.Date.{Date}
+use Rattle.calendar.specs.declared.iso.IsoDate.{IsoDate}
 use Rattle.signed.specs.Bias.{natural_of, whole_of, bias_day, unbias_day}
 use Rattle.evandrusk.specs.declared.answers.EvkDate.{EvkDate}
 use Rattle.evandrusk.specs.declared.answers.EvkDay.{EvkDay}
 use Rattle.evandrusk.specs.declared.answers.EvkIso.{EvkIso}
 
-abbrev pub day_answer : Day → EvkDay
-day_answer (Day.Is n) = record { number = 0; day = unbias_day n }
-day_answer Day.Outside = record { number = 5; day = pos 0 }
+abbrev pub day_answer : Option ℕ → EvkDay
+day_answer (Some n) = record { number = 0; day = unbias_day n }
+day_answer None = record { number = 5; day = pos 0 }
 
-abbrev pub date_answer : Dated → EvkDate
-date_answer (Dated.Is d) = record { number = 0; year = whole_of d.year; month = whole_of d.month; day = whole_of d.day }
-date_answer Dated.Outside = record { number = 5; year = pos 0; month = pos 0; day = pos 0 }
+abbrev pub date_answer : Option Date → EvkDate
+date_answer (Some d) = record { number = 0; year = whole_of d.year; month = whole_of d.month; day = whole_of d.day }
+date_answer None = record { number = 5; year = pos 0; month = pos 0; day = pos 0 }
 
-abbrev pub iso_answer : IsoDated → EvkIso
-iso_answer (IsoDated.Is d) = record { number = 0; year = whole_of d.year; week = whole_of d.week; weekday = whole_of d.weekday }
-iso_answer IsoDated.Outside = record { number = 5; year = pos 0; week = pos 0; weekday = pos 0 }
+abbrev pub iso_answer : Option IsoDate → EvkIso
+iso_answer (Some d) = record { number = 0; year = whole_of d.year; week = whole_of d.week; weekday = whole_of d.weekday }
+iso_answer None = record { number = 5; year = pos 0; week = pos 0; weekday = pos 0 }
 
 -- the four functions, for any three numbers or any one
 abbrev pub day_of_date_answer : ℤ → ℤ → ℤ → EvkDay

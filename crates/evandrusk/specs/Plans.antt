@@ -1,12 +1,9 @@
 -- What C is answered of a plan, by the signed instants and local minutes that it hands in: "Next and previous: 10, then 11. A local minute
 -- mapped by a plan's zone: 10, then 5. A refusal answers its number, its line or 0, and zeros for every other number." The offset at an instant: 10.
-use Rattle.std.specs.Prelude.{Bool, true, cond, List, [], ◌∷◌, ◌≡◌, ℕ, ℤ, pos, negsuc}
+use Rattle.std.specs.Prelude.{Bool, true, cond, List, [], ◌∷◌, ◌≡◌, ℕ, ℤ, pos, negsuc, Option, Some, None, Result, Ok, Err}
 use Rattle.std.proofs.Math.IntN.{sub_ℕ}
 use Rattle.std.specs.Int.Signed.{lt_z, le_z}
-use Rattle.load.specs.declared.Loaded.{Loaded as Load}
-use Rattle.next.specs.declared.Answer.{Answer}
-use Rattle.next.specs.declared.Local.{Local}
-use Rattle.next.specs.declared.Offset.{Offset}
+use Rattle.load.specs.declared.NotTaken.{NotTaken}
 use Rattle.plan.specs.Plan.{PlanInstant, plan_zone}
 use Rattle.plan.specs.Taken.{Loaded, taken, refused, load, loaded_number, loaded_line}
 use Rattle.plan.specs.declared.Frame.{Frame}
@@ -14,7 +11,6 @@ use Rattle.signed.specs.Bias.{unbias_instant}
 use Rattle.zone.specs.Stretches.{instant_of_local}
 use Rattle.zone.specs.Zone.{bias}
 use Rattle.zone.specs.declared.Transition.{Transition}
-use Rattle.zone.specs.declared.stretch.Instant.{Instant}
 use Rattle.calendar.specs.Window.{window_minutes}
 use Rattle.evandrusk.specs.declared.answers.EvkChecked.{EvkChecked}
 use Rattle.evandrusk.specs.declared.answers.EvkFound.{EvkFound}
@@ -24,9 +20,9 @@ use Rattle.evandrusk.specs.declared.answers.EvkOffset.{EvkOffset}
 unfoldable pub check_answer : List ℕ → EvkChecked
 check_answer plan = record { number = loaded_number (load plan); line = loaded_line (load plan) }
 
-abbrev pub checked_as : Load → EvkChecked
-checked_as (Load.Taken n) = record { number = 0; line = 0 }
-checked_as (Load.Refused k) = record { number = 10; line = k }
+abbrev pub checked_as : Result ℕ NotTaken → EvkChecked
+checked_as (Ok n) = record { number = 0; line = 0 }
+checked_as (Err e) = record { number = 10; line = e.line }
 
 -- an instant is answered with 0, and a refusal with its number and line
 abbrev pub found_at : ℤ → EvkFound
@@ -35,15 +31,17 @@ found_at z = record { number = 0; line = 0; instant = z }
 abbrev pub refused_as : ℕ → ℕ → EvkFound
 refused_as number line = record { number = number; line = line; instant = pos 0 }
 
-abbrev pub answer_as : Answer → EvkFound
-answer_as (Answer.Is i) = found_at (unbias_instant i)
-answer_as Answer.Never = refused_as 11 0
-answer_as (Answer.Refused k) = refused_as 10 k
+-- `none` is the number where there is no instant: 11 for next and previous, 5 for a local minute outside the window
+abbrev pub found_as : ℕ → Result (Option ℕ) NotTaken → EvkFound
+found_as none (Ok (Some i)) = found_at (unbias_instant i)
+found_as none (Ok None) = refused_as none 0
+found_as none (Err e) = refused_as 10 e.line
 
-abbrev pub local_as : Local → EvkFound
-local_as (Local.Is i) = found_at (unbias_instant i)
-local_as Local.Outside = refused_as 5 0
-local_as (Local.Refused k) = refused_as 10 k
+abbrev pub answer_as : Result (Option ℕ) NotTaken → EvkFound
+answer_as r = found_as 11 r
+
+abbrev pub local_as : Result (Option ℕ) NotTaken → EvkFound
+local_as r = found_as 5 r
 
 -- an instant of the plan as C gets it
 pub record SignedInstant (fs : List Frame) (z : ℤ) : Type 0 where
@@ -77,9 +75,9 @@ unfoldable pub PreviousAnswer : List ℕ → ℤ → EvkFound → Type 0
 PreviousAnswer plan asked r = NearestBy later (load plan) asked r
 
 -- the instant of any signed local minute: a negative one is outside the window too
-abbrev pub local_found : Instant → EvkFound
-local_found (Instant.Is i) = found_at (unbias_instant i)
-local_found Instant.Outside = refused_as 5 0
+abbrev pub local_found : Option ℕ → EvkFound
+local_found (Some i) = found_at (unbias_instant i)
+local_found None = refused_as 5 0
 
 unfoldable pub local_by : Loaded → ℤ → EvkFound
 local_by (taken fs) (pos m) = local_found (instant_of_local (plan_zone fs) m)
@@ -107,9 +105,9 @@ signed_offset offset (t ∷ ts) z = signed_offset (cond (le_z (moved_down t.at) 
 abbrev pub offset_with : ℕ → ℕ → ℤ → EvkOffset
 offset_with number line z = record { number = number; line = line; offset = z }
 
-abbrev pub offset_as : Offset → EvkOffset
-offset_as (Offset.Is o) = offset_with 0 0 (unbias_instant o)
-offset_as (Offset.Refused k) = offset_with 10 k (pos 0)
+abbrev pub offset_as : Result ℕ NotTaken → EvkOffset
+offset_as (Ok o) = offset_with 0 0 (unbias_instant o)
+offset_as (Err e) = offset_with 10 e.line (pos 0)
 
 unfoldable pub offset_by : Loaded → ℤ → EvkOffset
 offset_by (taken fs) z = offset_with 0 0 (signed_offset (moved_down (plan_zone fs).first) (plan_zone fs).changes z)

@@ -1,16 +1,22 @@
 // What C is answered: 0, or the refusal with zeros.
 ghost use Rattle.std.specs.Prelude.{◌≡◌};
-ghost use Rattle.signed.specs.Bias.{unbias_instant};
 ghost use Rattle.evandrusk.specs.Answers.{day_answer, date_answer, iso_answer};
 ghost use Rattle.evandrusk.specs.Sheets.{compiled_for};
-ghost use Rattle.evandrusk.specs.Plans.{checked_as, answer_as, local_as, offset_as, offset_with, found_at, refused_as, minute_of};
+ghost use Rattle.evandrusk.specs.Plans.{checked_as, found_as, refused_as, offset_as, minute_of};
 
-use calendar::date::{Dated, Day};
-use calendar::iso::IsoDated;
+use calendar::date::Date;
+use calendar::iso::IsoDate;
 use calendar::window;
-use compile::Compiled;
-use load::Loaded;
-use next::{Answer, Local, Offset};
+use compile::Refusal;
+use load::NotTaken;
+
+// Refusals as numbers: the structs of include/evandrusk.h hold a uint64_t.
+// Outside the range or the window.
+pub(crate) const OUTSIDE: u64 = 5;
+// A plan that is not taken.
+const NOT_TAKEN: u64 = 10;
+// No instant beyond the asked one.
+pub(crate) const NONE: u64 = 11;
 
 #[repr(C)]
 #[derive(Clone, Copy)]
@@ -70,86 +76,134 @@ pub struct EvkCompiled {
     pub bad_length: u64,
 }
 
-pub(crate) fn compiled(made: Compiled) -> EvkCompiled
-    ensures { result ≡ compiled_for made }
+impl From<Option<u64>> for EvkDay {
+    ghost from_gives = { λ day answer. answer ≡ day_answer day };
+
+    fn from(day: Option<u64>) -> EvkDay {
+        match day {
+            Some(n) => EvkDay {
+                number: 0,
+                day: signed::unbias_day(n),
+            },
+            None => EvkDay {
+                number: OUTSIDE,
+                day: 0,
+            },
+        }
+    }
+}
+
+impl From<Option<Date>> for EvkDate {
+    ghost from_gives = { λ date answer. answer ≡ date_answer date };
+
+    fn from(date: Option<Date>) -> EvkDate {
+        match date {
+            Some(d) => EvkDate {
+                number: 0,
+                year: signed::whole(d.year),
+                month: signed::whole(d.month),
+                day: signed::whole(d.day),
+            },
+            None => EvkDate {
+                number: OUTSIDE,
+                year: 0,
+                month: 0,
+                day: 0,
+            },
+        }
+    }
+}
+
+impl From<Option<IsoDate>> for EvkIso {
+    ghost from_gives = { λ iso answer. answer ≡ iso_answer iso };
+
+    fn from(iso: Option<IsoDate>) -> EvkIso {
+        match iso {
+            Some(d) => EvkIso {
+                number: 0,
+                year: signed::whole(d.year),
+                week: signed::whole(d.week),
+                weekday: signed::whole(d.weekday),
+            },
+            None => EvkIso {
+                number: OUTSIDE,
+                year: 0,
+                week: 0,
+                weekday: 0,
+            },
+        }
+    }
+}
+
+impl From<Result<usize, Refusal>> for EvkCompiled {
+    ghost from_gives = { λ made answer. answer ≡ compiled_for made };
+
+    fn from(made: Result<usize, Refusal>) -> EvkCompiled {
+        match made {
+            Ok(length) => EvkCompiled {
+                number: 0,
+                line: 0,
+                length: length as u64,
+                bad_at: 0,
+                bad_length: 0,
+            },
+            Err(refusal) => EvkCompiled {
+                number: refusal.reason.number(),
+                line: refusal.line as u64,
+                length: 0,
+                bad_at: refusal.at as u64,
+                bad_length: refusal.length as u64,
+            },
+        }
+    }
+}
+
+impl From<Result<usize, NotTaken>> for EvkChecked {
+    ghost from_gives = { λ loaded answer. answer ≡ checked_as loaded };
+
+    fn from(loaded: Result<usize, NotTaken>) -> EvkChecked {
+        match loaded {
+            Ok(_) => EvkChecked { number: 0, line: 0 },
+            Err(refusal) => EvkChecked {
+                number: NOT_TAKEN,
+                line: refusal.line as u64,
+            },
+        }
+    }
+}
+
+impl From<Result<u64, NotTaken>> for EvkOffset {
+    ghost from_gives = { λ offset answer. answer ≡ offset_as offset };
+
+    // An offset is moved up by a day, as an instant is.
+    fn from(offset: Result<u64, NotTaken>) -> EvkOffset {
+        match offset {
+            Ok(minutes) => EvkOffset {
+                number: 0,
+                line: 0,
+                offset: signed::unbias_instant(minutes),
+            },
+            Err(refusal) => EvkOffset {
+                number: NOT_TAKEN,
+                line: refusal.line as u64,
+                offset: 0,
+            },
+        }
+    }
+}
+
+// An instant, or `none` where a plan that is taken has none.
+pub(crate) fn found(answer: Result<Option<u64>, NotTaken>, none: u64) -> EvkFound
+    ensures { result ≡ found_as none answer }
 {
-    match made {
-        Compiled::Plan(length) => EvkCompiled {
+    match answer {
+        Ok(Some(i)) => EvkFound {
             number: 0,
             line: 0,
-            length: length as u64,
-            bad_at: 0,
-            bad_length: 0,
+            instant: signed::unbias_instant(i),
         },
-        Compiled::Refused(refusal) => EvkCompiled {
-            number: refusal.number,
-            line: refusal.line as u64,
-            length: 0,
-            bad_at: refusal.at as u64,
-            bad_length: refusal.length as u64,
-        },
-    }
-}
-
-pub(crate) fn day(found: Day) -> EvkDay
-    ensures { result ≡ day_answer found }
-{
-    let Day::Is(n) = found else {
-        return EvkDay { number: 5, day: 0 };
-    };
-    EvkDay {
-        number: 0,
-        day: signed::unbias_day(n),
-    }
-}
-
-pub(crate) fn date(found: Dated) -> EvkDate
-    ensures { result ≡ date_answer found }
-{
-    let Dated::Is(d) = found else {
-        return EvkDate {
-            number: 5,
-            year: 0,
-            month: 0,
-            day: 0,
-        };
-    };
-    EvkDate {
-        number: 0,
-        year: signed::whole(d.year),
-        month: signed::whole(d.month),
-        day: signed::whole(d.day),
-    }
-}
-
-pub(crate) fn iso(found: IsoDated) -> EvkIso
-    ensures { result ≡ iso_answer found }
-{
-    let IsoDated::Is(d) = found else {
-        return EvkIso {
-            number: 5,
-            year: 0,
-            week: 0,
-            weekday: 0,
-        };
-    };
-    EvkIso {
-        number: 0,
-        year: signed::whole(d.year),
-        week: signed::whole(d.week),
-        weekday: signed::whole(d.weekday),
-    }
-}
-
-pub(crate) fn checked(loaded: Loaded) -> EvkChecked
-    ensures { result ≡ checked_as loaded }
-{
-    let Loaded::Refused(line) = loaded else {
-        return EvkChecked { number: 0, line: 0 };
-    };
-    EvkChecked {
-        number: 10,
-        line: line as u64,
+        Ok(None) => refused(none, 0),
+        Err(refusal) => refused(NOT_TAKEN, refusal.line),
     }
 }
 
@@ -164,62 +218,9 @@ fn refused(number: u64, line: usize) -> EvkFound
     }
 }
 
-fn at(i: u64) -> EvkFound
-    ensures { result ≡ found_at (unbias_instant i) }
-{
-    EvkFound {
-        number: 0,
-        line: 0,
-        instant: signed::unbias_instant(i),
-    }
-}
-
-pub(crate) fn found(answer: Answer) -> EvkFound
-    ensures { result ≡ answer_as answer }
-{
-    match answer {
-        Answer::Is(i) => at(i),
-        Answer::Never => refused(11, 0),
-        Answer::Refused(line) => refused(10, line),
-    }
-}
-
-pub(crate) fn local(answer: Local) -> EvkFound
-    ensures { result ≡ local_as answer }
-{
-    match answer {
-        Local::Is(i) => at(i),
-        Local::Outside => refused(5, 0),
-        Local::Refused(line) => refused(10, line),
-    }
-}
-
-fn offset_with(number: u64, line: usize, offset: i64) -> EvkOffset
-    ensures { result ≡ offset_with number line offset }
-{
-    EvkOffset {
-        number,
-        line: line as u64,
-        offset,
-    }
-}
-
-// An offset is moved up by a day, as an instant is.
-pub(crate) fn offset(answer: Offset) -> EvkOffset
-    ensures { result ≡ offset_as answer }
-{
-    match answer {
-        Offset::Is(minutes) => offset_with(0, 0, signed::unbias_instant(minutes)),
-        Offset::Refused(line) => offset_with(10, line, 0),
-    }
-}
-
 // A local minute that is negative is outside the window, as the first past it is.
 pub(crate) fn minute_of(m: i64) -> u64
     ensures { result ≡ minute_of m }
 {
-    if m < 0 {
-        return window::MINUTES;
-    }
-    signed::natural(m)
+    u64::try_from(m).unwrap_or(window::MINUTES)
 }

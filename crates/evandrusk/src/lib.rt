@@ -8,7 +8,9 @@ ghost use Rattle.evandrusk.specs.Answers.{day_of_date_answer, date_of_day_answer
 ghost use Rattle.evandrusk.specs.Plans.{check_answer, NextAnswer, PreviousAnswer, local_answer, offset_answer};
 ghost use Rattle.evandrusk.specs.Sheets.{compile_answer};
 
-use answers::{EvkChecked, EvkCompiled, EvkDate, EvkDay, EvkFound, EvkIso, EvkOffset};
+use answers::{
+    EvkChecked, EvkCompiled, EvkDate, EvkDay, EvkFound, EvkIso, EvkOffset, NONE, OUTSIDE,
+};
 use calendar::{date, iso};
 
 pub mod answers;
@@ -16,70 +18,79 @@ pub mod answers;
 pub fn evk_day_of_date(year: i64, month: i64, day: i64) -> EvkDay
     ensures { result ≡ day_of_date_answer year month day }
 {
-    let found = date::day_of_date(
+    date::day_of_date(
         signed::natural(year),
         signed::natural(month),
         signed::natural(day),
-    );
-    answers::day(found)
+    )
+    .into()
 }
 
 pub fn evk_date_of_day(day: i64) -> EvkDate
     ensures { result ≡ date_of_day_answer day }
 {
-    answers::date(date::date_of_day(signed::bias_day(day)))
+    date::date_of_day(signed::bias_day(day)).into()
 }
 
 pub fn evk_iso_of_day(day: i64) -> EvkIso
     ensures { result ≡ iso_of_day_answer day }
 {
-    answers::iso(iso::iso_of_day(signed::bias_day(day)))
+    iso::iso_of_day(signed::bias_day(day)).into()
 }
 
 pub fn evk_day_of_iso(year: i64, week: i64, weekday: i64) -> EvkDay
     ensures { result ≡ day_of_iso_answer year week weekday }
 {
-    let found = iso::day_of_iso(
+    iso::day_of_iso(
         signed::natural(year),
         signed::natural(week),
         signed::natural(weekday),
-    );
-    answers::day(found)
+    )
+    .into()
 }
 
+#[tactic(auto, using(crate::proofs::Edges::compile_edge))]
 pub fn evk_compile(sheet: &[u8], plan: &mut [u8]) -> EvkCompiled
     ensures answer { result ≡ compile_answer (compile_of sheet.now (length plan.old)) }
     ensures plan { plan.new ≡ left_in plan.old (compile_of sheet.now (length plan.old)) }
 {
-    answers::compiled(compile::compile(sheet, plan))
+    compile::compile(sheet, plan).into()
 }
 
+#[tactic(auto, using(crate::proofs::Edges::check_edge))]
 pub fn evk_check(plan: &[u8]) -> EvkChecked
     ensures { result ≡ check_answer plan.now }
 {
-    answers::checked(load::check(plan))
+    load::check(plan).into()
 }
 
+#[tactic(auto, using(crate::proofs::Edges::next_edge))]
 pub fn evk_next(plan: &[u8], instant: i64) -> EvkFound
     ensures { NextAnswer plan.now instant result }
 {
-    answers::found(next::next(plan, signed::bias_instant(instant)))
+    answers::found(next::next(plan, signed::bias_instant(instant)), NONE)
 }
 
+#[tactic(auto, using(crate::proofs::Edges::previous_edge))]
 pub fn evk_previous(plan: &[u8], instant: i64) -> EvkFound
     ensures { PreviousAnswer plan.now instant result }
 {
-    answers::found(next::previous(plan, signed::bias_instant(instant)))
+    answers::found(next::previous(plan, signed::bias_instant(instant)), NONE)
 }
 
+#[tactic(auto, using(crate::proofs::Edges::local_edge))]
 pub fn evk_instant_of_local(plan: &[u8], local_minute: i64) -> EvkFound
     ensures { result ≡ local_answer plan.now local_minute }
 {
-    answers::local(next::instant_of_local(plan, answers::minute_of(local_minute)))
+    answers::found(
+        next::instant_of_local(plan, answers::minute_of(local_minute)),
+        OUTSIDE,
+    )
 }
 
+#[tactic(auto, using(crate::proofs::Edges::offset_edge))]
 pub fn evk_offset_at(plan: &[u8], instant: i64) -> EvkOffset
     ensures { result ≡ offset_answer plan.now instant }
 {
-    answers::offset(next::offset_at(plan, signed::bias_instant(instant)))
+    next::offset_at(plan, signed::bias_instant(instant)).into()
 }

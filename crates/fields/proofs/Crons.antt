@@ -1,6 +1,6 @@
 -- The reader of five fields against the form of a cron line.
+use Rattle.std.specs.Prelude.{Option, None, Some}
 use mathlib.Core.List.{List, [], ◌∷◌, ◌++◌, append_assoc}
-use mathlib.Core.Option.{Option, none, some}
 use mathlib.Core.Path.{◌≡◌, refl, sym, ap}
 use Prim.Native.Nat.{ℕ, ◌+◌, ◌<◌}
 use native.Mathlib.Omega.{arith}
@@ -27,17 +27,17 @@ stops_at_end = record { digits = refl; dash = refl; comma = refl; star = refl }
 
 -- ---- the line of the fields so far and of the pieces that follow
 abbrev after : List Field → Option (List Field) → Option (List Field)
-after fs none = none
-after fs (some gs) = some (fs ++ gs)
+after fs None = None
+after fs (Some gs) = Some (fs ++ gs)
 
 after_nothing : (o : Option (List Field)) → after [] o ≡ o
-after_nothing none = refl
-after_nothing (some gs) = refl
+after_nothing None = refl
+after_nothing (Some gs) = refl
 
 abbrev line_of : List Field → List (List ℕ) → Option Form
 line_of fs ps = cron_of (after fs (each_of field_of ps))
 
-too_few : (fs : List Field) → length fs < 5 → cron_of (some fs) ≡ none
+too_few : (fs : List Field) → length fs < 5 → cron_of (Some fs) ≡ None
 unfolding cron_of
 too_few [] h = refl
 too_few (a ∷ []) h = refl
@@ -53,18 +53,18 @@ last_line a b c d [] = rw (each_none field_of) refl
 last_line a b c d (p ∷ []) = by_field (field_of p) refl
   where
     by_field : (o : Option Field) → field_of p ≡ o → line_of (a ∷ b ∷ c ∷ d ∷ []) (p ∷ []) ≡ made (cron a b c d) (field_of p)
-    by_field none e = rw (each_cons field_of p [] none _ e refl, e) refl
-    by_field (some f) e = rw (each_cons field_of p [] (some f) (some []) e (each_none field_of), e) refl
+    by_field None e = rw (each_cons field_of p [] None _ e refl, e) refl
+    by_field (Some f) e = rw (each_cons field_of p [] (Some f) (Some []) e (each_none field_of), e) refl
 last_line a b c d (p ∷ q ∷ ps) = by_fields (field_of p) (field_of q) (each_of field_of ps) refl refl refl
   where
     by_fields : (o n : Option Field) (x : Option (List Field)) → field_of p ≡ o → field_of q ≡ n → each_of field_of ps ≡ x
-        → line_of (a ∷ b ∷ c ∷ d ∷ []) (p ∷ q ∷ ps) ≡ none
-    by_fields none n x e f g = rw (each_cons field_of p (q ∷ ps) none _ e refl) refl
-    by_fields (some v) none x e f g = rw (each_cons field_of p (q ∷ ps) (some v) none e (each_cons field_of q ps none x f g)) refl
-    by_fields (some v) (some w) none e f g =
-        rw (each_cons field_of p (q ∷ ps) (some v) none e (each_cons field_of q ps (some w) none f g)) refl
-    by_fields (some v) (some w) (some gs) e f g =
-        rw (each_cons field_of p (q ∷ ps) (some v) (some (w ∷ gs)) e (each_cons field_of q ps (some w) (some gs) f g)) refl
+        → line_of (a ∷ b ∷ c ∷ d ∷ []) (p ∷ q ∷ ps) ≡ None
+    by_fields None n x e f g = rw (each_cons field_of p (q ∷ ps) None _ e refl) refl
+    by_fields (Some v) None x e f g = rw (each_cons field_of p (q ∷ ps) (Some v) None e (each_cons field_of q ps None x f g)) refl
+    by_fields (Some v) (Some w) None e f g =
+        rw (each_cons field_of p (q ∷ ps) (Some v) None e (each_cons field_of q ps (Some w) None f g)) refl
+    by_fields (Some v) (Some w) (Some gs) e f g =
+        rw (each_cons field_of p (q ∷ ps) (Some v) (Some (w ∷ gs)) e (each_cons field_of q ps (Some w) (Some gs) f g)) refl
 
 -- ---- the reader
 module _ (s : List ℕ) where
@@ -80,19 +80,19 @@ module _ (s : List ℕ) where
       then_tied 32 s field_of (field_read s) FieldStops space_stops tie [] stops_at_end (line_of fs) (λ (f : Field). line_of (fs ++ (f ∷ [])))
       more no_first first alone again refl
     where
-      no_first : (q : List ℕ) (ps : List (List ℕ)) → field_of q ≡ none → line_of fs (q ∷ ps) ≡ none
-      no_first q ps e = rw (each_cons field_of q ps none _ e refl) refl
+      no_first : (q : List ℕ) (ps : List (List ℕ)) → field_of q ≡ None → line_of fs (q ∷ ps) ≡ None
+      no_first q ps e = rw (each_cons field_of q ps None _ e refl) refl
 
-      first : (q : List ℕ) (ps : List (List ℕ)) (f : Field) → field_of q ≡ some f → line_of fs (q ∷ ps) ≡ line_of (fs ++ (f ∷ [])) ps
+      first : (q : List ℕ) (ps : List (List ℕ)) (f : Field) → field_of q ≡ Some f → line_of fs (q ∷ ps) ≡ line_of (fs ++ (f ∷ [])) ps
       first q ps f e = by_others (each_of field_of ps) refl
         where
           by_others : (o : Option (List Field)) → each_of field_of ps ≡ o → line_of fs (q ∷ ps) ≡ line_of (fs ++ (f ∷ [])) ps
-          by_others none g = rw (each_cons field_of q ps (some f) none e g, g) refl
-          by_others (some gs) g =
-              rw (each_cons field_of q ps (some f) (some gs) e g, g)
-              (ap (λ (l : List Field). cron_of (some l)) (sym (append_assoc fs (f ∷ []) gs)))
+          by_others None g = rw (each_cons field_of q ps (Some f) None e g, g) refl
+          by_others (Some gs) g =
+              rw (each_cons field_of q ps (Some f) (Some gs) e g, g)
+              (ap (λ (l : List Field). cron_of (Some l)) (sym (append_assoc fs (f ∷ []) gs)))
 
-      alone : (f : Field) → line_of (fs ++ (f ∷ [])) [] ≡ none
+      alone : (f : Field) → line_of (fs ++ (f ∷ [])) [] ≡ None
       alone f =
           rw (each_none field_of)
           (too_few (fs ++ (f ∷ []) ++ []) (omega (arith, length-append (fs ++ (f ∷ [])) [], length-append fs (f ∷ []))))

@@ -1,7 +1,7 @@
 -- A field's reader against the form of a whole field.
+use Rattle.std.specs.Prelude.{Option, None, Some}
 use mathlib.Core.Bool.{Bool, true, false, and-false}
 use mathlib.Core.List.{List, [], ◌∷◌, ◌++◌}
-use mathlib.Core.Option.{Option, none, some}
 use mathlib.Core.Path.{◌≡◌, refl, ap, ◌∙◌}
 use Prim.Native.Nat.{ℕ, ◌+◌, ◌≤◌}
 use native.Mathlib.Omega.{arith}
@@ -38,31 +38,31 @@ after_comma rest = (refl, refl)
 list_form : (p : List ℕ) (o : Option (List Element)) → each_of element_of (pieces 44 p) ≡ o → same_bytes p (42 ∷ []) ≡ false
     → field_of p ≡ made list o
 unfolding field_of
-list_form p none e f = rw (f, e) refl
-list_form p (some es) e f = rw (f, e) refl
+list_form p None e f = rw (f, e) refl
+list_form p (Some es) e f = rw (f, e) refl
 
 -- what begins with `*` is no number, no element and no list
-star_number : (q : List ℕ) → number_of (42 ∷ q) ≡ none
+star_number : (q : List ℕ) → number_of (42 ∷ q) ≡ None
 unfolding number_of
 star_number q = rw and-false refl
 
 first_piece : (separator : ℕ) (q : List ℕ) → eqb 42 separator ≡ false → (A : Type 0) (form : List ℕ → Option A)
-    → ((r : List ℕ) → form (42 ∷ r) ≡ none) → each_of form (pieces separator (42 ∷ q)) ≡ none
+    → ((r : List ℕ) → form (42 ∷ r) ≡ None) → each_of form (pieces separator (42 ∷ q)) ≡ None
 unfolding pieces cons_of
 first_piece separator q e A form f = by_cut (cut_of separator q)
   where
-    by_cut : Cut separator q → each_of form (pieces separator (42 ∷ q)) ≡ none
-    by_cut c = rw (pieces, e, c.cut) (each_cons form (42 ∷ c.piece) c.others none _ (f c.piece) refl)
+    by_cut : Cut separator q → each_of form (pieces separator (42 ∷ q)) ≡ None
+    by_cut c = rw (pieces, e, c.cut) (each_cons form (42 ∷ c.piece) c.others None _ (f c.piece) refl)
 
-star_element : (q : List ℕ) → element_of (42 ∷ q) ≡ none
+star_element : (q : List ℕ) → element_of (42 ∷ q) ≡ None
 unfolding element_of
 star_element q = rw (first_piece 45 q refl ℕ number_of star_number) refl
 
-star_more : (c : ℕ) (q : List ℕ) → field_of (42 ∷ c ∷ q) ≡ none
+star_more : (c : ℕ) (q : List ℕ) → field_of (42 ∷ c ∷ q) ≡ None
 unfolding same_bytes
-star_more c q = list_form (42 ∷ c ∷ q) none (first_piece 44 (c ∷ q) refl Element element_of star_element) refl
+star_more c q = list_form (42 ∷ c ∷ q) None (first_piece 44 (c ∷ q) refl Element element_of star_element) refl
 
-star_whole : field_of (42 ∷ []) ≡ some star
+star_whole : field_of (42 ∷ []) ≡ Some star
 unfolding field_of same_bytes
 star_whole = refl
 
@@ -76,8 +76,8 @@ other_byte c q e = rw e refl
 
 -- ---- the reader
 list_read_lem : (o : Option (List Element × ℕ)) → list_of o ≡ made_read list o
-list_read_lem none = refl
-list_read_lem (some r) = refl
+list_read_lem None = refl
+list_read_lem (Some r) = refl
 
 module _ (s : List ℕ) (at : ℕ) (tail : List ℕ) (stops : FieldStops tail) where
   list_case : (p : List ℕ) → drop at s ≡ p ++ tail → eqb (get_or s at 0) 42 ≡ false → same_bytes p (42 ∷ []) ≡ false
@@ -90,7 +90,7 @@ module _ (s : List ℕ) (at : ℕ) (tail : List ℕ) (stops : FieldStops tail) w
       (tied_made list _ _ at at _ (omega arith) t)
 
   star_case : (p : List ℕ) (form : Option Field) → field_of p ≡ form → eqb (get_or s at 0) 42 ≡ true → 1 ≤ length p
-      → (length p ≡ 1 → form ≡ some star) → ((length p ≡ 1 → ⊥) → form ≡ none) → Tied (field_of p) (field_read s at) at (at + length p)
+      → (length p ≡ 1 → form ≡ Some star) → ((length p ≡ 1 → ⊥) → form ≡ None) → Tied (field_of p) (field_read s at) at (at + length p)
   unfolding field_read
   star_case p form e b h all part =
       rw (e, b)
@@ -105,8 +105,8 @@ module _ (s : List ℕ) (at : ℕ) (tail : List ℕ) (stops : FieldStops tail) w
       byte = first_byte s at ((c ∷ q) ++ tail) here
 
       after_star : eqb (get_or s at 0) 42 ≡ true → (q : List ℕ) → Tied (field_of (42 ∷ q)) (field_read s at) at (at + length (42 ∷ q))
-      after_star b [] = star_case (42 ∷ []) (some star) star_whole b (omega arith) (λ l. refl) (λ n. absurd (n refl))
-      after_star b (d ∷ q) = star_case (42 ∷ d ∷ q) none (star_more d q) b (omega arith) (λ l. absurd (omega arith)) (λ n. refl)
+      after_star b [] = star_case (42 ∷ []) (Some star) star_whole b (omega arith) (λ l. refl) (λ n. absurd (n refl))
+      after_star b (d ∷ q) = star_case (42 ∷ d ∷ q) None (star_more d q) b (omega arith) (λ l. absurd (omega arith)) (λ n. refl)
 
       by_byte : (b : Bool) → eqb c 42 ≡ b → Tied (field_of (c ∷ q)) (field_read s at) at (at + length (c ∷ q))
       by_byte true e = rw (eqb-true c 42 e) (after_star (ap (λ (x : ℕ). eqb x 42) byte ∙ e) q)

@@ -1,27 +1,35 @@
 -- The five fields of a cron line at a place: their form, then whether all numbers are in range, then the frame.
-use Rattle.std.specs.Prelude.{Bool, false, cond, List, ℕ, ◌+◌, eqb, get_or}
-use Rattle.std.proofs.Math.Option.{Option, none, some}
+use Rattle.std.specs.Prelude.{cond, List, ℕ, ◌+◌, eqb, get_or, Option, None, Some}
 use Rattle.framed.specs.Framed.{cron_frame}
+use Rattle.frames.specs.declared.Cron.{Cron}
 use Rattle.lines.specs.Bytes.{byte}
 use Rattle.sheet.specs.Form.{Field as Form, Form as Line, zone, change, cron, rule, extra, except}
 use Rattle.sheet.specs.Range.{in_range}
 use Rattle.words.specs.Answers.{made_read, then_at}
 use Rattle.words.specs.Reads.{cursor}
+use Rattle.words.specs.declared.cursor.Cursor.{Cursor}
 use Rattle.fields.specs.Fields.{field_read}
 use Rattle.fields.specs.declared.field.Field.{Field}
-use Rattle.fields.specs.declared.five.Five.{Five}
-use Rattle.fields.specs.declared.five.Step.{Step}
 
--- what stands in one field, after others whose numbers are in range or not
-abbrev pub step_as : Bool → Field → Step
-step_as good (Field.Is mask restricted c) = Step.Is mask restricted good c
-step_as good (Field.Outside c) = Step.Is 0 false false c
-step_as good Field.Not = Step.Not
+-- a field and the space after it
+abbrev pub space_after : List ℕ → Option (Option Field × Cursor) → Option (Option Field × Cursor)
+space_after s (Some r) = cond (eqb (get_or s r.1.at 0) (byte " ")) (Some (r.0, cursor (r.1.at + 1))) None
+space_after s None = None
 
--- and the space after it
-abbrev pub space_after : List ℕ → Step → Step
-space_after s (Step.Is mask restricted good c) = cond (eqb (get_or s c.at 0) (byte " ")) (Step.Is mask restricted good (cursor (c.at + 1))) Step.Not
-space_after s Step.Not = Step.Not
+-- the frame of five fields, if all are in range
+abbrev pub frame_as : Option Field → Option Field → Option Field → Option Field → Option Field → Option Cron
+frame_as (Some m) (Some h) (Some d) (Some mo) (Some w) =
+    Some (
+    record {
+      minutes = m.mask;
+      hours = h.mask;
+      days = d.mask;
+      months = mo.mask;
+      weekdays = w.mask;
+      flags = cond d.restricted 1 0 + cond w.restricted 2 0 + cond mo.restricted 4 0;
+    }
+    )
+frame_as m h d mo w = None
 
 -- "five cron fields, one space between"
 unfoldable pub cron_read : List ℕ → ℕ → Option (Line × ℕ)
@@ -30,11 +38,11 @@ cron_read s at =
     after (λ m. after (λ h. after (λ d. after (λ mo e. made_read (cron m h d mo) (field_read s e))))) at
 
 -- the frame, or, once all five are of the form, that a number is out of range
-unfoldable pub five_as : Option (Line × ℕ) → Five
-five_as none = Five.Not
-five_as (some (zone s, e)) = Five.Not
-five_as (some (change t s, e)) = Five.Not
-five_as (some (cron m h d mo w, e)) = cond (in_range (cron m h d mo w)) (Five.Is (cron_frame m h d mo w) (cursor e)) (Five.Outside (cursor e))
-five_as (some (rule t ps, e)) = Five.Not
-five_as (some (extra t, e)) = Five.Not
-five_as (some (except t, e)) = Five.Not
+unfoldable pub five_as : Option (Line × ℕ) → Option (Option Cron × Cursor)
+five_as None = None
+five_as (Some (zone s, e)) = None
+five_as (Some (change t s, e)) = None
+five_as (Some (cron m h d mo w, e)) = Some (cond (in_range (cron m h d mo w)) (Some (cron_frame m h d mo w)) None, cursor e)
+five_as (Some (rule t ps, e)) = None
+five_as (Some (extra t, e)) = None
+five_as (Some (except t, e)) = None

@@ -1,14 +1,12 @@
 -- The numbers of a field marked in a mask, one element after the other.
-use Rattle.std.specs.Prelude.{false, cond, ◌&&◌, List, ℕ, ◌+◌, ◌-◌, ◌^◌, leb, eqb}
-use Rattle.std.proofs.Math.Option.{Option, none, some}
+use Rattle.std.specs.Prelude.{false, cond, ◌&&◌, List, ℕ, ◌+◌, ◌-◌, ◌^◌, leb, eqb, Option, None, Some}
 use Rattle.std.specs.Int.Bits.{bit_or}
 use Rattle.lines.specs.Bytes.{byte}
 use Rattle.sheet.specs.Form.{Element as Form, one, range}
 use Rattle.words.specs.Lists.{over_all, list_at}
 use Rattle.words.specs.Reads.{cursor}
+use Rattle.words.specs.declared.cursor.Cursor.{Cursor}
 use Rattle.fields.specs.Elements.{element_at, element_read}
-use Rattle.fields.specs.declared.element.Element.{Element}
-use Rattle.fields.specs.declared.list.Listed.{Listed}
 use Rattle.fields.specs.declared.marks.Marks.{Marks}
 
 -- the numbers first to last, or that one is out of range
@@ -21,11 +19,6 @@ unfoldable pub marks_of : ℕ → ℕ → Marks → Form → Marks
 marks_of low high m (one n) = marks_with low high m n n
 marks_of low high m (range a b) = marks_with low high m a b
 
-abbrev pub element_marks : ℕ → ℕ → Marks → Element → Listed
-element_marks low high m (Element.One n c) = Listed.Is (marks_with low high m n n) c
-element_marks low high m (Element.Range a b c) = Listed.Is (marks_with low high m a b) c
-element_marks low high m Element.Not = Listed.Not
-
 abbrev pub marks_over : ℕ → ℕ → Marks → List Form → Marks
 marks_over low high = over_all (marks_of low high)
 
@@ -33,10 +26,10 @@ marks_over low high = over_all (marks_of low high)
 unfoldable pub elements_at : List ℕ → ℕ → ℕ → Option (List Form × ℕ)
 elements_at s left at = list_at (λ (e : ℕ). element_read (element_at s e)) (byte ",") s left at
 
-abbrev pub listed_as : ℕ → ℕ → Marks → Option (List Form × ℕ) → Listed
-listed_as low high m none = Listed.Not
-listed_as low high m (some r) = Listed.Is (marks_over low high m r.0) (cursor r.1)
+abbrev pub listed_as : ℕ → ℕ → Marks → Option (List Form × ℕ) → Option (Marks × Cursor)
+listed_as low high m None = None
+listed_as low high m (Some r) = Some (marks_over low high m r.0, cursor r.1)
 
 -- what was marked by the place after it, which is 0 where there is no list
-abbrev pub ended_as : Marks → ℕ → Listed
-ended_as m end = cond (eqb end 0) Listed.Not (Listed.Is m (cursor end))
+abbrev pub ended_as : Marks → ℕ → Option (Marks × Cursor)
+ended_as m end = cond (eqb end 0) None (Some (m, cursor end))

@@ -2,30 +2,26 @@
 ghost use Rattle.std.specs.Prelude.{◌≡◌};
 ghost use Rattle.fields.specs.Elements.{element_at};
 
-use words::cursor::{Cursor, Number};
+use words::cursor::Cursor;
 
-const DASH: u8 = 45;
+const DASH: u8 = b'-';
 
-// One number or both ends of a range, and the place after it.
+// One number or both ends of a range.
 #[derive(Clone, Copy)]
 pub enum Element {
-    One(u64, Cursor),
-    Range(u64, u64, Cursor),
-    Not,
+    One(u64),
+    Range(u64, u64),
 }
 
-pub fn element_at(s: &[u8], c: Cursor) -> Element
+#[tactic(auto, using(words::proofs::Counting::byte_within), unfolding(crate::specs::Elements::element_at))]
+pub fn element_at(s: &[u8], c: Cursor) -> Option<(Element, Cursor)>
     ensures { result ≡ element_at s.now c.at }
 {
-    let Number::Is(first, next) = c.number(s) else {
-        return Element::Not;
-    };
+    let (first, next) = c.number(s)?;
     if next.byte(s) != DASH {
-        return Element::One(first, next);
+        return Some((Element::One(first), next));
     }
     let dash = Cursor { at: next.at + 1 };
-    let Number::Is(last, after) = dash.number(s) else {
-        return Element::Not;
-    };
-    Element::Range(first, last, after)
+    let (last, after) = dash.number(s)?;
+    Some((Element::Range(first, last), after))
 }

@@ -1,48 +1,21 @@
 // "five cron fields, one space between"
 ghost use Rattle.std.specs.Prelude.{cond, ◌≡◌, ◌+◌};
-ghost use Rattle.fields.specs.Crons.{step_as, space_after, cron_read, five_as};
+ghost use Rattle.fields.specs.Crons.{space_after, frame_as, cron_read, five_as};
+ghost use Rattle.fields.specs.Fields.{field_at};
 
-use crate::field::{DayOfMonth, DayOfWeek, Field, Hour, Minute, Month};
+use crate::field::{CronField, DayOfMonth, DayOfWeek, Field, Hour, Minute, Month, field_at};
 use frames::{Cron, kinds};
 use words::cursor::{Cursor, SPACE};
 
-// The frame of five fields and the place after them; a number out of range, once all five are of the form; or no five fields.
-#[derive(Clone, Copy)]
-pub enum Five {
-    Is(Cron, Cursor),
-    Outside(Cursor),
-    Not,
-}
-
-#[derive(Clone, Copy)]
-enum Step {
-    // A field's mask, whether it is restricted, whether every number up to its end is in range, and where to read on.
-    Is(u64, bool, bool, Cursor),
-    Not,
-}
-
-// A field after others that were good or not. A number out of range does not end the reading: a later form error comes first.
-fn step_of(field: Field, good: bool) -> Step
-    ensures { result ≡ step_as good field }
+// A field with one space after it.
+fn spaced<F: CronField>(s: &[u8], c: Cursor) -> Option<(Option<Field>, Cursor)>
+    ensures { result ≡ space_after s.now (field_at F.LOW F.HIGH s.now c.at) }
 {
-    match field {
-        Field::Is(mask, restricted, next) => Step::Is(mask, restricted, good, next),
-        Field::Outside(next) => Step::Is(0, false, false, next),
-        Field::Not => Step::Not,
-    }
-}
-
-// The same with one space after the field.
-fn spaced(s: &[u8], field: Field, good: bool) -> Step
-    ensures { result ≡ space_after s.now (step_as good field) }
-{
-    let Step::Is(mask, restricted, all_good, next) = step_of(field, good) else {
-        return Step::Not;
-    };
+    let (field, next) = field_at::<F>(s, c)?;
     if next.byte(s) != SPACE {
-        return Step::Not;
+        return None;
     }
-    Step::Is(mask, restricted, all_good, Cursor { at: next.at + 1 })
+    Some((field, Cursor { at: next.at + 1 }))
 }
 
 // The flags of a restricted day of month, day of week and month.
@@ -52,49 +25,44 @@ const WEEKDAYS: u64 = 1 << kinds::WEEKDAY_FLAG;
 
 const MONTHS: u64 = 1 << kinds::MONTH_FLAG;
 
-// One of the flags.
-fn flag(restricted: bool, value: u64) -> u64
-    ensures { result ≡ cond restricted value 0 }
-{
-    if restricted { value } else { 0 }
-}
-
 // "flags 1 (bit 0 day of month restricted, bit 1 day of week restricted)", and bit 2 month.
 fn flags(days: bool, weekdays: bool, months: bool) -> u64
     ensures { result ≡ cond days 1 0 + cond weekdays 2 0 + cond months 4 0 }
 {
-    flag(days, DAYS) + flag(weekdays, WEEKDAYS) + flag(months, MONTHS)
+    DAYS * u64::from(days) + WEEKDAYS * u64::from(weekdays) + MONTHS * u64::from(months)
 }
 
-pub fn five_at(s: &[u8], c: Cursor) -> Five
+// The frame of five fields, if the numbers of all are in range.
+fn frame_of(
+    minutes: Option<Field>,
+    hours: Option<Field>,
+    days: Option<Field>,
+    months: Option<Field>,
+    weekdays: Option<Field>,
+) -> Option<Cron>
+    ensures { result ≡ frame_as minutes hours days months weekdays }
+{
+    let (minutes, hours) = (minutes?, hours?);
+    let (days, months, weekdays) = (days?, months?, weekdays?);
+    Some(Cron {
+        minutes: minutes.mask,
+        hours: hours.mask,
+        days: days.mask,
+        months: months.mask,
+        weekdays: weekdays.mask,
+        flags: flags(days.restricted, weekdays.restricted, months.restricted),
+    })
+}
+
+// The frame of five fields, or None where a number is out of range, and the place after them.
+// A number out of range does not end the reading: a later form error comes first.
+pub fn five_at(s: &[u8], c: Cursor) -> Option<(Option<Cron>, Cursor)>
     ensures { result ≡ five_as (cron_read s.now c.at) }
 {
-    let Step::Is(minutes, _, good, next) = spaced(s, Minute::minute(s, c), true) else {
-        return Five::Not;
-    };
-    let Step::Is(hours, _, good, next) = spaced(s, Hour::hour(s, next), good) else {
-        return Five::Not;
-    };
-    let Step::Is(days, day, good, next) = spaced(s, DayOfMonth::day_of_month(s, next), good) else {
-        return Five::Not;
-    };
-    let Step::Is(months, month, good, next) = spaced(s, Month::month(s, next), good) else {
-        return Five::Not;
-    };
-    let Step::Is(weekdays, weekday, good, next) = step_of(DayOfWeek::day_of_week(s, next), good)
-    else {
-        return Five::Not;
-    };
-    if !good {
-        return Five::Outside(next);
-    }
-    let frame = Cron {
-        minutes,
-        hours,
-        days,
-        months,
-        weekdays,
-        flags: flags(day, weekday, month),
-    };
-    Five::Is(frame, next)
+    let (minutes, next) = spaced::<Minute>(s, c)?;
+    let (hours, next) = spaced::<Hour>(s, next)?;
+    let (days, next) = spaced::<DayOfMonth>(s, next)?;
+    let (months, next) = spaced::<Month>(s, next)?;
+    let (weekdays, next) = field_at::<DayOfWeek>(s, next)?;
+    Some((frame_of(minutes, hours, days, months, weekdays), next))
 }

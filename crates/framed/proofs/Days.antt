@@ -1,7 +1,7 @@
 -- The days of a rule's frame are those of the rule, COUNT and UNTIL left out.
+use Rattle.std.specs.Prelude.{Option, None, Some, unwrap_or}
 use mathlib.Core.Bool.{Bool, true, false, ◌&&◌, ◌||◌}
 use mathlib.Core.List.{List}
-use mathlib.Core.Option.{Option, none, some, get_or}
 use mathlib.Core.Path.{◌≡◌, refl, ap, ap₂, ◌∙◌}
 use Prim.Native.Nat.{ℕ, ◌-◌, ◌/◌, ◌%◌, ◌<◌}
 use native.Mathlib.Omega.{arith}
@@ -47,7 +47,7 @@ period_is monthly r e d = rw e refl
 period_is yearly r e d = rw e refl
 
 module _ (f : Frequency) (g : Given) (first : ℕ) (r : Rule) (a : Framed f g first r) (good : Good g) where
-  counts_is : (d : ℕ) → counts r d ≡ eqb ((period_of f d - period_of f first) % get_or g.interval 1) 0
+  counts_is : (d : ℕ) → counts r d ≡ eqb ((period_of f d - period_of f first) % unwrap_or g.interval 1) 0
   unfolding counts
   counts_is d = rw (period_is f r a.frequency d, period_is f r a.frequency (r.start / day_minutes), a.start, a.interval) refl
 
@@ -58,8 +58,8 @@ module _ (f : Frequency) (g : Given) (first : ℕ) (r : Rule) (a : Framed f g fi
     placed_is : (ns : Option (List Signed)) → r.positions ≡ positions_for ns → given_passes (listed day_number_in_range) ns ≡ true
         → placed r d ≡ allows (position_has f g first d) ns
     unfolding position_has
-    placed_is none e l = any_place r d (ap no_limit e)
-    placed_is (some ns) e l =
+    placed_is None e l = any_place r d (ap no_limit e)
+    placed_is (Some ns) e l =
         let set : ℕ → Bool = day_set f g first in
         given_place r d f a.frequency (ap no_limit e ∙ ends_limit ns l)
         ∙ ap (places_have r d f (in_set r)) e
@@ -74,17 +74,17 @@ module _ (f : Frequency) (g : Given) (first : ℕ) (r : Rule) (a : Framed f g fi
     day_is =
         ap₂ ◌&&◌ (ap (λ (x : ℕ). leb x d) a.start) (ap₂ ◌&&◌ (counts_is d) set_placed)
 
-pub frame_framed : (g : Given) (start : ℕ) → Framed (get_or g.frequency daily) g (start / day_minutes) (rule_frame g start)
+pub frame_framed : (g : Given) (start : ℕ) → Framed (unwrap_or g.frequency daily) g (start / day_minutes) (rule_frame g start)
 unfolding rule_frame
 frame_framed g start =
     record { frequency = refl; interval = refl; start = refl; weekdays = refl; days = refl; ordinals = refl; positions = refl; months = refl }
 
 module _ (t : Time) (ps : List Part) (inside : in_range (rule t ps) ≡ true) (w : written (rule t ps) ≡ true) where
   pub rule_day_lem : (d : ℕ) → d < window_days
-      → rule_day (rule_frame (given_of ps) (minute_of t)) d ≡ occurs_on (get_or (given_of ps).frequency daily) (given_of ps) (minute_of t / day_minutes) d
+      → rule_day (rule_frame (given_of ps) (minute_of t)) d ≡ occurs_on (unwrap_or (given_of ps).frequency daily) (given_of ps) (minute_of t / day_minutes) d
   rule_day_lem d h =
       let g : Given = given_of ps in
-      day_is (get_or g.frequency daily) g (minute_of t / day_minutes) (rule_frame g (minute_of t)) (frame_framed g (minute_of t))
+      day_is (unwrap_or g.frequency daily) g (minute_of t / day_minutes) (rule_frame g (minute_of t)) (frame_framed g (minute_of t))
       (rule_good_lem t ps w inside) d h
 
   pub rule_occurs_lem : (m : ℕ) → m < window_minutes → rule_occurs (rule_frame (given_of ps) (minute_of t)) m ≡ occurs_at (given_of ps) (minute_of t) m

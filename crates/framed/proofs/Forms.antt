@@ -1,7 +1,7 @@
 -- The form of a line is one that can be written: its lists are not empty, and its weekdays are of the seven.
+use Rattle.std.specs.Prelude.{Option, None, Some}
 use mathlib.Core.Bool.{Bool, true, false}
 use mathlib.Core.List.{List, [], ◌∷◌}
-use mathlib.Core.Option.{Option, none, some}
 use mathlib.Core.Path.{◌≡◌, refl, sym, ap, ◌∙◌}
 use Prim.Native.Nat.{ℕ, ◌-◌}
 use lib.Dec.{ltb, eqb}
@@ -18,8 +18,8 @@ use Rattle.framed.proofs.Passing.{anything_passes, cond_passes, all_pass, pieces
 -- ---- weekdays
 ordinal_written : (o : Option Signed) (w : ℕ) → ltb w 7 ≡ true → given_passes weekday_written (ordinal_entry o w) ≡ true
 unfolding ordinal_entry
-ordinal_written none w t = refl
-ordinal_written (some n) w t = t
+ordinal_written None w t = refl
+ordinal_written (Some n) w t = t
 
 entry_written : (s : List ℕ) → given_passes weekday_written (entry_of s) ≡ true
 unfolding entry_of
@@ -35,8 +35,8 @@ part_written_lem : {A : Type 0} (test : A → Bool) (part : A → Part) (o : Opt
     → given_passes test o ≡ true
     → given_passes part_written (part_by part o) ≡ true
 unfolding part_by
-part_written_lem test part none w e = refl
-part_written_lem test part (some a) w e = w a e
+part_written_lem test part None w e = refl
+part_written_lem test part (Some a) w e = w a e
 
 simple_written : {A : Type 0} (part : A → Part) (o : Option A) → ((a : A) → part_written (part a) ≡ true)
     → given_passes part_written (part_by part o) ≡ true
@@ -80,32 +80,32 @@ part_of_written s = named_written (pieces (byte "=") s)
 
 -- ---- cron fields
 abbrev list_of : Option (List Element) → Option Field
-list_of none = none
-list_of (some es) = some (list es)
+list_of None = None
+list_of (Some es) = Some (list es)
 
 elements_written : (o : Option (List Element)) → given_passes (listed anything) o ≡ true → given_passes field_written (list_of o) ≡ true
-elements_written none e = refl
-elements_written (some es) e = e
+elements_written None e = refl
+elements_written (Some es) e = e
 
 field_written_lem : (s : List ℕ) → given_passes field_written (field_of s) ≡ true
 unfolding field_of
 field_written_lem s =
     let es : Option (List Element) = each_of element_of (pieces (byte ",") s) in
-    cond_passes field_written (same_bytes s (bytes "*")) (some star) (list_of es) refl
+    cond_passes field_written (same_bytes s (bytes "*")) (Some star) (list_of es) refl
     (elements_written es (pieces_pass anything element_of (λ e. anything_passes (element_of e)) (byte ",") s))
 
 -- ---- lines
 plain_written : {A : Type 0} (form : A → Form) (o : Option A) → ((a : A) → written (form a) ≡ true)
     → given_passes written (form_by form o) ≡ true
 unfolding form_by
-plain_written form none w = refl
-plain_written form (some a) w = w a
+plain_written form None w = refl
+plain_written form (Some a) w = w a
 
 change_by_written : (t : Option Time) (s : Option Shift) → given_passes written (change_by t s) ≡ true
 unfolding change_by
-change_by_written none s = refl
-change_by_written (some t) none = refl
-change_by_written (some t) (some s) = refl
+change_by_written None s = refl
+change_by_written (Some t) None = refl
+change_by_written (Some t) (Some s) = refl
 
 change_written : (ps : List (List ℕ)) → given_passes written (change_of ps) ≡ true
 unfolding change_of
@@ -116,21 +116,21 @@ change_written (t ∷ s ∷ other ∷ more) = refl
 
 cron_written : (fs : Option (List Field)) → given_passes (all_of field_written) fs ≡ true → given_passes written (cron_of fs) ≡ true
 unfolding cron_of
-cron_written none w = refl
-cron_written (some []) w = refl
-cron_written (some (a ∷ [])) w = refl
-cron_written (some (a ∷ b ∷ [])) w = refl
-cron_written (some (a ∷ b ∷ c ∷ [])) w = refl
-cron_written (some (a ∷ b ∷ c ∷ d ∷ [])) w = refl
-cron_written (some (a ∷ b ∷ c ∷ d ∷ e ∷ [])) w = w
-cron_written (some (a ∷ b ∷ c ∷ d ∷ e ∷ f ∷ more)) w = refl
+cron_written None w = refl
+cron_written (Some []) w = refl
+cron_written (Some (a ∷ [])) w = refl
+cron_written (Some (a ∷ b ∷ [])) w = refl
+cron_written (Some (a ∷ b ∷ c ∷ [])) w = refl
+cron_written (Some (a ∷ b ∷ c ∷ d ∷ [])) w = refl
+cron_written (Some (a ∷ b ∷ c ∷ d ∷ e ∷ [])) w = w
+cron_written (Some (a ∷ b ∷ c ∷ d ∷ e ∷ f ∷ more)) w = refl
 
 rule_by_written : (t : Option Time) (ps : Option (List Part)) → given_passes (all_of part_written) ps ≡ true
     → given_passes written (rule_by t ps) ≡ true
 unfolding rule_by
-rule_by_written none ps e = refl
-rule_by_written (some t) none e = refl
-rule_by_written (some t) (some ps) e = e
+rule_by_written None ps e = refl
+rule_by_written (Some t) None e = refl
+rule_by_written (Some t) (Some ps) e = e
 
 rule_written : (ps : List (List ℕ)) → given_passes written (rule_of ps) ≡ true
 unfolding rule_of
@@ -157,8 +157,8 @@ line_written [] = refl
 line_written (tag ∷ []) = refl
 line_written (tag ∷ space ∷ s) = cond_passes written (eqb space (byte " ")) _ _ (tagged_written tag s) refl
 
-pub form_written : (line : List ℕ) (f : Form) → form_of line ≡ some f → written f ≡ true
+pub form_written : (line : List ℕ) (f : Form) → form_of line ≡ Some f → written f ≡ true
 form_written line f e = sym (ap (given_passes written) e) ∙ line_written line
 
-pub rule_form_written : (ps : List (List ℕ)) (f : Form) → rule_of ps ≡ some f → written f ≡ true
+pub rule_form_written : (ps : List (List ℕ)) (f : Form) → rule_of ps ≡ Some f → written f ≡ true
 rule_form_written ps f e = sym (ap (given_passes written) e) ∙ rule_written ps

@@ -1,7 +1,7 @@
 -- What the laws ask of cron fields and of the parts of a rule: numbers in range, lists as they can be written, and parts that go together.
+use Rattle.std.specs.Prelude.{Option, None, Some}
 use mathlib.Core.Bool.{Bool, true, false, not, ◌&&◌}
 use mathlib.Core.List.{List, [], ◌∷◌}
-use mathlib.Core.Option.{Option, none, some}
 use mathlib.Core.Path.{◌≡◌, refl}
 use Prim.Native.Nat.{ℕ}
 use borrow.Author.Tests.{not-true}
@@ -43,8 +43,8 @@ written (except t) = true
 
 -- a part that is given passes a test
 abbrev pub given_passes : {A : Type 0} → (A → Bool) → Option A → Bool
-given_passes test none = true
-given_passes test (some a) = test a
+given_passes test None = true
+given_passes test (Some a) = test a
 
 pub record Good (g : Given) : Type 0 where
   pub interval : given_passes (within 1 999) g.interval ≡ true

@@ -1,7 +1,7 @@
 -- The frame of a rule holds what the rule holds: *last* for COUNT and for UNTIL.
+use Rattle.std.specs.Prelude.{Option, None, Some, unwrap_or}
 use mathlib.Core.Bool.{Bool, true, false, ◌&&◌, and-true, false≢true}
 use mathlib.Core.List.{List}
-use mathlib.Core.Option.{Option, none, some, get_or}
 use mathlib.Core.Path.{◌≡◌, refl, sym, ap, ◌∙◌}
 use Prim.Native.Nat.{ℕ, ◌+◌, ◌-◌, ◌*◌, ◌/◌, ◌%◌, ◌<◌, ◌≤◌}
 use native.Mathlib.Omega.{arith}
@@ -44,13 +44,13 @@ module _ (test : ℕ → Bool) (start m : ℕ) (h : m < window_minutes) (from : 
 
   last_keeps : (until : Option Time) (count : Option ℕ) → (is_given count && is_given until) ≡ false → given_passes (leb 1) count ≡ true
       → leb m (last_by (nth_last test start) until count) ≡ (within_until until m && within_count count upto)
-  last_keeps none none e p = le-leb m window_last (omega arith)
-  last_keeps none (some c) e p = count_keeps c (leb-true 1 c p)
-  last_keeps (some t) none e p = sym (and-true (leb m (minute_of t)))
-  last_keeps (some t) (some c) e p = absurd (false≢true (sym e))
+  last_keeps None None e p = le-leb m window_last (omega arith)
+  last_keeps None (Some c) e p = count_keeps c (leb-true 1 c p)
+  last_keeps (Some t) None e p = sym (and-true (leb m (minute_of t)))
+  last_keeps (Some t) (Some c) e p = absurd (false≢true (sym e))
 
 abbrev frequency_in : Given → Frequency
-frequency_in g = get_or g.frequency daily
+frequency_in g = unwrap_or g.frequency daily
 
 -- a minute of an occurrence
 record Occurs (g : Given) (start m : ℕ) : Type 0 where

@@ -1,7 +1,7 @@
 -- The frame of a line that is taken means what the line means.
+use Rattle.std.specs.Prelude.{Some}
 use mathlib.Core.Bool.{Bool, true, false, cond, not}
 use mathlib.Core.List.{List, ◌∷◌}
-use mathlib.Core.Option.{some}
 use mathlib.Core.Path.{◌≡◌, refl}
 use Prim.Native.Nat.{ℕ, suc, ◌<◌}
 use native.Mathlib.Omega.{arith}
@@ -49,7 +49,7 @@ pub record Means (f : Form) (frame : Frame) : Type 0 where
   pub changes : (frames : List Frame) (fs : List Form) → changes_of frames ≡ changes_of_lines fs
       → changes_of (frame ∷ frames) ≡ changes_of_lines (f ∷ fs)
 
-pub line_means : (line : List ℕ) (f : Form) → form_of line ≡ some f → (c : Context) → form_refusal c f ≡ 0 → Means f (frame_of f)
+pub line_means : (line : List ℕ) (f : Form) → form_of line ≡ Some f → (c : Context) → form_refusal c f ≡ 0 → Means f (frame_of f)
 unfolding frame_holds frame_excepts offset_of changes_of line_holds line_excepts offset_of_lines changes_of_lines frame_of
 line_means line (zone s) e c z = record { holds = λ m h. refl; excepts = λ m. refl; offset = λ fr fs o. refl; changes = λ fr fs o. o }
 line_means line (change t s) e c z =

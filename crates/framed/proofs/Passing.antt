@@ -1,7 +1,7 @@
 -- What every value that a text is found to write passes, and every element of a list of pieces, which has one at least.
+use Rattle.std.specs.Prelude.{Option, None, Some}
 use mathlib.Core.Bool.{Bool, true, false, cond, false≢true}
 use mathlib.Core.List.{List, [], ◌∷◌}
-use mathlib.Core.Option.{Option, none, some}
 use mathlib.Core.Path.{◌≡◌, refl}
 use Prim.Native.Nat.{ℕ}
 use lib.Dec.{eqb}
@@ -12,8 +12,8 @@ use Rattle.framed.proofs.Goods.{given_passes}
 use Rattle.framed.proofs.Listed.{anything, listed}
 
 pub anything_passes : {A : Type 0} (o : Option A) → given_passes anything o ≡ true
-anything_passes none = refl
-anything_passes (some a) = refl
+anything_passes None = refl
+anything_passes (Some a) = refl
 
 -- one of two
 pub cond_passes : {A : Type 0} (test : A → Bool) (b : Bool) (x y : Option A) → given_passes test x ≡ true → given_passes test y ≡ true
@@ -42,14 +42,14 @@ module _ {A : Type 0} (test : A → Bool) (form : List ℕ → Option A) (each :
   first_passes : (x : Option A) (xs : Option (List A)) → given_passes test x ≡ true → given_passes (all_of test) xs ≡ true
       → given_passes (listed test) (cons_of x xs) ≡ true
   unfolding cons_of
-  first_passes none xs e f = refl
-  first_passes (some x) none e f = refl
-  first_passes (some x) (some xs) e f = rw (e, f) refl
+  first_passes None xs e f = refl
+  first_passes (Some x) None e f = refl
+  first_passes (Some x) (Some xs) e f = rw (e, f) refl
 
   listed_all : (o : Option (List A)) → given_passes (listed test) o ≡ true → given_passes (all_of test) o ≡ true
-  listed_all none e = refl
-  listed_all (some []) e = refl
-  listed_all (some (x ∷ xs)) e = e
+  listed_all None e = refl
+  listed_all (Some []) e = refl
+  listed_all (Some (x ∷ xs)) e = e
 
   pub all_pass : (ss : List (List ℕ)) → given_passes (all_of test) (each_of form ss) ≡ true
   unfolding each_of

@@ -1,7 +1,7 @@
 -- The day set of a rule's frame is that of the rule.
+use Rattle.std.specs.Prelude.{Option, None, Some, unwrap_or}
 use mathlib.Core.Bool.{Bool, true, false, ◌&&◌, ◌||◌, and_comm, and-true, or-false}
 use mathlib.Core.List.{List}
-use mathlib.Core.Option.{Option, none, some, get_or}
 use mathlib.Core.Path.{◌≡◌, refl, sym, ap, ap₂, ◌∙◌}
 use Prim.Native.Nat.{ℕ, ◌/◌, ◌^◌, ◌<◌}
 use native.Mathlib.Omega.{arith}
@@ -28,14 +28,14 @@ use Rattle.framed.proofs.Ordinals.{ordinal_ends, entry_good, entries_hold, entri
 
 -- the frame of a rule but for *last*
 abbrev pub ordinals_for : Option (List Entry) → Ends
-ordinals_for o = elim o [ none ↦ nothing | some es ↦ ordinal_ends es ]
+ordinals_for o = elim o [ None ↦ nothing | Some es ↦ ordinal_ends es ]
 
 abbrev pub positions_for : Option (List Signed) → Ends
-positions_for o = elim o [ none ↦ nothing | some ns ↦ ends_of ns ]
+positions_for o = elim o [ None ↦ nothing | Some ns ↦ ends_of ns ]
 
 pub record Framed (f : Frequency) (g : Given) (first : ℕ) (r : Rule) : Type 0 where
   pub frequency : r.frequency ≡ frequency_number f
-  pub interval : r.interval ≡ get_or g.interval 1
+  pub interval : r.interval ≡ unwrap_or g.interval 1
   pub start : r.start / day_minutes ≡ first
   pub weekdays : r.weekdays ≡ weekdays_of f g.days first
   pub days : r.days ≡ days_of f g.days g.month_days first
@@ -62,15 +62,15 @@ module _ (first d : ℕ) (h : d < window_days) where
 
   -- what the month days say of the day, where they are given or not
   abbrev day_or_own : Option (List Entry) → Option (List Signed) → Bool
-  day_or_own es (some ns) = any_of (month_day_has d) ns
-  day_or_own (some es) none = true
-  day_or_own none none = eqb (local_date d).day (local_date first).day
+  day_or_own es (Some ns) = any_of (month_day_has d) ns
+  day_or_own (Some es) None = true
+  day_or_own None None = eqb (local_date d).day (local_date first).day
 
   day_or_own_lem : (es : Option (List Entry)) (ns : Option (List Signed)) → given_passes (listed day_number_in_range) ns ≡ true
       → limit_has (days_or es ns first) ≡ day_or_own es ns
-  day_or_own_lem es (some ns) l = numbers_have ns l
-  day_or_own_lem (some es) none l = refl
-  day_or_own_lem none none l = own_day_has
+  day_or_own_lem es (Some ns) l = numbers_have ns l
+  day_or_own_lem (Some es) None l = refl
+  day_or_own_lem None None l = own_day_has
 
   abbrev month_days_have : Frequency → Option (List Entry) → Option (List Signed) → Bool
   month_days_have weekly es ns = true
@@ -82,30 +82,30 @@ module _ (first d : ℕ) (h : d < window_days) where
       → limit_has (days_of f es ns first) ≡ month_days_have f es ns
   unfolding days_of
   month_days_have_lem weekly es ns l = refl
-  month_days_have_lem daily es none l = refl
-  month_days_have_lem daily es (some ns) l = numbers_have ns l
+  month_days_have_lem daily es None l = refl
+  month_days_have_lem daily es (Some ns) l = numbers_have ns l
   month_days_have_lem monthly es ns l = day_or_own_lem es ns l
   month_days_have_lem yearly es ns l = day_or_own_lem es ns l
 
   -- ---- weekdays
   abbrev entries_have : Frequency → Option (List Entry) → Bool
-  entries_have f (some es) = any_of (entry_has d) es
-  entries_have daily none = true
-  entries_have weekly none = eqb (local_weekday d) (local_weekday first)
-  entries_have monthly none = true
-  entries_have yearly none = true
+  entries_have f (Some es) = any_of (entry_has d) es
+  entries_have daily None = true
+  entries_have weekly None = eqb (local_weekday d) (local_weekday first)
+  entries_have monthly None = true
+  entries_have yearly None = true
 
   entries_have_lem : (r : Rule) (f : Frequency) (es : Option (List Entry)) → r.weekdays ≡ weekdays_of f es first → r.ordinals ≡ ordinals_for es
       → given_passes (listed entry_good) es ≡ true → weekday_allowed r (local_date d).day (from_end d) (local_weekday d) ≡ entries_have f es
   unfolding weekdays_of weekday_allowed
-  entries_have_lem r f (some es) w o l = rw (w, o, entries_limit es l) (entries_hold d h es)
-  entries_have_lem r daily none w o l = any_weekday r (local_date d).day (from_end d) (local_weekday d) (rw o refl) w
-  entries_have_lem r weekly none w o l =
+  entries_have_lem r f (Some es) w o l = rw (w, o, entries_limit es l) (entries_hold d h es)
+  entries_have_lem r daily None w o l = any_weekday r (local_date d).day (from_end d) (local_weekday d) (rw o refl) w
+  entries_have_lem r weekly None w o l =
       let x : ℕ = local_weekday first in
       plain_weekday r (local_date d).day (from_end d) (local_weekday d) (rw o refl) (rw w (power_limits x))
       ∙ rw w (bit_of_power x (local_weekday d))
-  entries_have_lem r monthly none w o l = any_weekday r (local_date d).day (from_end d) (local_weekday d) (rw o refl) w
-  entries_have_lem r yearly none w o l = any_weekday r (local_date d).day (from_end d) (local_weekday d) (rw o refl) w
+  entries_have_lem r monthly None w o l = any_weekday r (local_date d).day (from_end d) (local_weekday d) (rw o refl) w
+  entries_have_lem r yearly None w o l = any_weekday r (local_date d).day (from_end d) (local_weekday d) (rw o refl) w
 
   -- ---- months
   months_hold : (ms : List ℕ) → listed month_in_range ms ≡ true → month_allowed (month_mask ms) (month_number d) ≡ any_of (month_has d) ms
@@ -118,8 +118,8 @@ module _ (first d : ℕ) (h : d < window_days) where
 
   limit_has_lem : (ms : Option (List ℕ)) → given_passes (listed month_in_range) ms ≡ true
       → month_allowed (month_limit ms) (month_number d) ≡ allows (month_has d) ms
-  limit_has_lem none l = refl
-  limit_has_lem (some ms) l = months_hold ms l
+  limit_has_lem None l = refl
+  limit_has_lem (Some ms) l = months_hold ms l
 
   abbrev months_have : Frequency → Option (List Entry) → Option (List Signed) → Option (List ℕ) → Bool
   months_have daily es ns ms = allows (month_has d) ms
@@ -134,10 +134,10 @@ module _ (first d : ℕ) (h : d < window_days) where
   months_have_lem daily es ns ms l = limit_has_lem ms l
   months_have_lem weekly es ns ms l = limit_has_lem ms l
   months_have_lem monthly es ns ms l = limit_has_lem ms l
-  months_have_lem yearly none none none l = own_month_has
-  months_have_lem yearly none none (some ms) l = months_hold ms l
-  months_have_lem yearly none (some ns) ms l = limit_has_lem ms l
-  months_have_lem yearly (some es) ns ms l = limit_has_lem ms l
+  months_have_lem yearly None None None l = own_month_has
+  months_have_lem yearly None None (Some ms) l = months_hold ms l
+  months_have_lem yearly None (Some ns) ms l = limit_has_lem ms l
+  months_have_lem yearly (Some es) ns ms l = limit_has_lem ms l
 
   -- ---- all of them
   day_set_has : (f : Frequency) (g : Given) (es : Option (List Entry)) (ns : Option (List Signed)) (ms : Option (List ℕ))
@@ -146,19 +146,19 @@ module _ (first d : ℕ) (h : d < window_days) where
       → g.months ≡ ms
       → day_set f g first d ≡ (months_have f es ns ms && (month_days_have f es ns && entries_have f es))
   unfolding day_set
-  day_set_has daily g none ns ms e n m = rw (e, n, m, and-true) refl
-  day_set_has daily g (some es) ns ms e n m = rw (e, n, m, and_comm (any_of (entry_has d) es) (allows (month_day_has d) ns)) refl
-  day_set_has weekly g none ns ms e n m = rw (e, m) refl
-  day_set_has weekly g (some es) ns ms e n m = rw (e, m) refl
-  day_set_has monthly g none none ms e n m = rw (e, n, m, and-true) refl
-  day_set_has monthly g none (some ns) ms e n m = rw (e, n, m, and-true) refl
-  day_set_has monthly g (some es) none ms e n m = rw (e, n, m) refl
-  day_set_has monthly g (some es) (some ns) ms e n m = rw (e, n, m, and_comm (any_of (entry_has d) es) (any_of (month_day_has d) ns)) refl
-  day_set_has yearly g none none none e n m = rw (e, n, m, and-true) refl
-  day_set_has yearly g none none (some ms) e n m = rw (e, n, m, and-true) refl
-  day_set_has yearly g none (some ns) ms e n m = rw (e, n, m, and-true) refl
-  day_set_has yearly g (some es) none ms e n m = rw (e, n, m) refl
-  day_set_has yearly g (some es) (some ns) ms e n m = rw (e, n, m, and_comm (any_of (entry_has d) es) (any_of (month_day_has d) ns)) refl
+  day_set_has daily g None ns ms e n m = rw (e, n, m, and-true) refl
+  day_set_has daily g (Some es) ns ms e n m = rw (e, n, m, and_comm (any_of (entry_has d) es) (allows (month_day_has d) ns)) refl
+  day_set_has weekly g None ns ms e n m = rw (e, m) refl
+  day_set_has weekly g (Some es) ns ms e n m = rw (e, m) refl
+  day_set_has monthly g None None ms e n m = rw (e, n, m, and-true) refl
+  day_set_has monthly g None (Some ns) ms e n m = rw (e, n, m, and-true) refl
+  day_set_has monthly g (Some es) None ms e n m = rw (e, n, m) refl
+  day_set_has monthly g (Some es) (Some ns) ms e n m = rw (e, n, m, and_comm (any_of (entry_has d) es) (any_of (month_day_has d) ns)) refl
+  day_set_has yearly g None None None e n m = rw (e, n, m, and-true) refl
+  day_set_has yearly g None None (Some ms) e n m = rw (e, n, m, and-true) refl
+  day_set_has yearly g None (Some ns) ms e n m = rw (e, n, m, and-true) refl
+  day_set_has yearly g (Some es) None ms e n m = rw (e, n, m) refl
+  day_set_has yearly g (Some es) (Some ns) ms e n m = rw (e, n, m, and_comm (any_of (entry_has d) es) (any_of (month_day_has d) ns)) refl
 
 module _ (f : Frequency) (g : Given) (first : ℕ) (r : Rule) (a : Framed f g first r) (good : Good g) (d : ℕ) (h : d < window_days) where
   pub in_set_is : in_set r d ≡ day_set f g first d

@@ -1,6 +1,5 @@
 -- The frame of a sheet line: "one frame for each sheet line".
-use Rattle.std.specs.Prelude.{Bool, true, false, cond, not, ◌&&◌, List, ℕ, ◌+◌, ◌-◌, ◌*◌, ◌/◌, ◌%◌, ◌^◌, ltb, eqb}
-use Rattle.std.proofs.Math.Option.{Option, none, some, get_or}
+use Rattle.std.specs.Prelude.{Bool, true, false, cond, not, ◌&&◌, List, ℕ, ◌+◌, ◌-◌, ◌*◌, ◌/◌, ◌%◌, ◌^◌, ltb, eqb, Option, None, Some, unwrap_or}
 use Rattle.calendar.specs.Below.{any_of}
 use Rattle.calendar.specs.Window.{local_date, local_weekday, day_minutes, window_days, window_last}
 use Rattle.days.specs.Search.{nth_from}
@@ -59,36 +58,36 @@ month_mask ms = mask_from (λ n. any_of (eqb n) ms) 12 1
 -- "Defaults of rule 2 are filled in": the start's weekday of a weekly rule, the start's day of month of a monthly one;
 -- T-01: "The defaults of YEARLY are filled in": the start's day of month, and without BYMONTH the start's month
 unfoldable pub weekdays_of : Frequency → Option (List Entry) → ℕ → ℕ
-weekdays_of f (some es) first = mask_from (λ w. any_of (is_plain w) es) 7 0
-weekdays_of daily none first = 0
-weekdays_of weekly none first = 2 ^ local_weekday first
-weekdays_of monthly none first = 0
-weekdays_of yearly none first = 0
+weekdays_of f (Some es) first = mask_from (λ w. any_of (is_plain w) es) 7 0
+weekdays_of daily None first = 0
+weekdays_of weekly None first = 2 ^ local_weekday first
+weekdays_of monthly None first = 0
+weekdays_of yearly None first = 0
 
 abbrev pub days_or : Option (List Entry) → Option (List Signed) → ℕ → Ends
-days_or es (some ns) first = ends_of ns
-days_or (some es) none first = nothing
-days_or none none first = record { front = 2 ^ (local_date first).day; back = 0 }
+days_or es (Some ns) first = ends_of ns
+days_or (Some es) None first = nothing
+days_or None None first = record { front = 2 ^ (local_date first).day; back = 0 }
 
 unfoldable pub days_of : Frequency → Option (List Entry) → Option (List Signed) → ℕ → Ends
-days_of daily es none first = nothing
-days_of daily es (some ns) first = ends_of ns
+days_of daily es None first = nothing
+days_of daily es (Some ns) first = ends_of ns
 days_of weekly es ns first = nothing
 days_of monthly es ns first = days_or es ns first
 days_of yearly es ns first = days_or es ns first
 
 abbrev pub month_limit : Option (List ℕ) → ℕ
-month_limit none = 0
-month_limit (some ms) = month_mask ms
+month_limit None = 0
+month_limit (Some ms) = month_mask ms
 
 unfoldable pub months_of : Frequency → Option (List Entry) → Option (List Signed) → Option (List ℕ) → ℕ → ℕ
 months_of daily es ns ms first = month_limit ms
 months_of weekly es ns ms first = month_limit ms
 months_of monthly es ns ms first = month_limit ms
-months_of yearly none none none first = 2 ^ month_number first
-months_of yearly none none (some ms) first = month_mask ms
-months_of yearly none (some ns) ms first = month_limit ms
-months_of yearly (some es) ns ms first = month_limit ms
+months_of yearly None None None first = 2 ^ month_number first
+months_of yearly None None (Some ms) first = month_mask ms
+months_of yearly None (Some ns) ms first = month_limit ms
+months_of yearly (Some es) ns ms first = month_limit ms
 
 -- "the COUNT-th occurrence's local minute, or 52,595,999 if .. fewer occurrences exist": day d at the start's time, and the COUNT-th of the days that pass a test
 abbrev pub minute_on : ℕ → ℕ → ℕ
@@ -99,12 +98,12 @@ nth_last test start c = let first = start / day_minutes in minute_on start (nth_
 
 -- "*Last* is UNTIL, or the COUNT-th occurrence's local minute, or 52,595,999 if there is neither or fewer occurrences exist."
 abbrev pub last_by : (ℕ → ℕ) → Option Time → Option ℕ → ℕ
-last_by nth (some t) count = minute_of t
-last_by nth none (some c) = nth c
-last_by nth none none = window_last
+last_by nth (Some t) count = minute_of t
+last_by nth None (Some c) = nth c
+last_by nth None None = window_last
 
 unfoldable pub last_of : Given → ℕ → ℕ
-last_of g start = last_by (nth_last (occurs_on (get_or g.frequency daily) g (start / day_minutes)) start) g.until g.count
+last_of g start = last_by (nth_last (occurs_on (unwrap_or g.frequency daily) g (start / day_minutes)) start) g.until g.count
 
 abbrev pub frequency_number : Frequency → ℕ
 frequency_number daily = 1
@@ -114,17 +113,17 @@ frequency_number yearly = 4
 
 unfoldable pub rule_frame : Given → ℕ → Rule
 rule_frame g start =
-    let f = get_or g.frequency daily in
+    let f = unwrap_or g.frequency daily in
     let first = start / day_minutes in
     record {
       frequency = frequency_number f;
-      interval = get_or g.interval 1;
+      interval = unwrap_or g.interval 1;
       start = start;
       last = last_of g start;
       weekdays = weekdays_of f g.days first;
       days = days_of f g.days g.month_days first;
-      ordinals = elim g.days [ none ↦ nothing | some es ↦ record { front = ordinals_of false es; back = ordinals_of true es } ];
-      positions = elim g.positions [ none ↦ nothing | some ns ↦ ends_of ns ];
+      ordinals = elim g.days [ None ↦ nothing | Some es ↦ record { front = ordinals_of false es; back = ordinals_of true es } ];
+      positions = elim g.positions [ None ↦ nothing | Some ns ↦ ends_of ns ];
       months = months_of f g.days g.month_days g.months first;
     }
 

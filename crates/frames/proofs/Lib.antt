@@ -5,5 +5,5 @@ pub mod Positions
 pub mod YearSets
 pub mod Weeks
 pub mod Allowed
-pub mod Swaps
+pub mod Reversals
 pub mod Ordinals

@@ -1,4 +1,4 @@
-// The kinds of frames, and a rule's frequencies.
+// The kinds of frames, and a rule's frequencies: numbers and no enum, since the byte of a plan may be any number.
 pub const OFFSET: u64 = 1;
 
 pub const CHANGE: u64 = 2;

@@ -7,11 +7,11 @@ pub mod months;
 pub mod numbers;
 mod picks;
 pub mod places;
-pub mod truth;
+mod shape;
 mod turns;
 pub mod years;
 
-// Frame 03: the masks of the five fields; flag bit 0 says that the day of month is restricted, bit 1 that the day of week is, bit 2 that the month is.
+// Frame 03: the masks of the five fields; flag bit 0 says that the day of month is restricted, bit 1 that the day of week is, bit 2 that the month is. Flags and frequencies are numbers, as the bytes of a plan are.
 #[derive(Clone, Copy)]
 pub struct Cron {
     pub minutes: u64,

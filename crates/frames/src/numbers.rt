@@ -1,4 +1,4 @@
-// A frame as a row of numbers, the first its kind: what the steps of the search can hand on without growing the stack.
+// The fields of a frame from its row. Functions and no `From<&Row>`: a row of any kind is one type, so no conversion of it is the only one.
 ghost use Rattle.std.specs.Prelude.{◌≡◌};
 ghost use Rattle.frames.specs.Numbers.{cron_of, rule_of};
 
@@ -44,10 +44,7 @@ pub fn rule_of(f: &Row) -> Rule
             front: f[places::ORDINALS_FRONT],
             back: f[places::ORDINALS_BACK],
         },
-        positions: Ends {
-            front: f[places::POSITIONS_FRONT],
-            back: f[places::POSITIONS_BACK],
-        },
+        positions: positions_of(f),
         months: f[places::RULE_MONTHS],
     }
 }

@@ -23,13 +23,12 @@ pub(crate) fn picked(positions: Ends, set: u64, len: u64) -> u64
     let wanted = turns::both_ends(positions, masks::count_from(set, 0));
     let mut picked = 0;
     let mut passed = 0;
-    let mut n = 1;
-    while n <= len {
+    // `1..=len` was tried: where len is 0 nothing is known of where its loop ends.
+    for n in 1..len + 1 {
         if masks::test(set, n) {
-            passed = passed + 1;
+            passed += 1;
             picked = with_place(wanted, passed, picked, n);
         }
-        n = n + 1;
     }
     picked
 }

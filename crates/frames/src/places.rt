@@ -1,4 +1,4 @@
-// A frame as a row of numbers: its kind first, and which number stands where.
+// A frame as a row of numbers: its kind first, and which number stands where. No enum: the steps of the search hand a row on by one address.
 ghost use Rattle.std.specs.Prelude.{◌≡◌, replicate};
 ghost use Rattle.frames.specs.Kinds.{most_frames, row_numbers};
 

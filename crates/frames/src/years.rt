@@ -7,7 +7,6 @@ ghost use Rattle.frames.specs.Kinds.{rule_kind, is_kind};
 
 use crate::limits::no_limit;
 use crate::places::Row;
-use crate::truth::both;
 use crate::{Ends, kinds, months, numbers, places};
 
 // The years of the window.
@@ -19,6 +18,7 @@ const COUNT: u64 = 32;
 const WIDTH: u64 = 5;
 
 // The frame with its whole day set in every month: as a daily one, without positions.
+#[tactic(auto, unfolding(crate::specs::Years::bared))]
 fn bare(f: &Row) -> Row
     ensures { result ≡ bared f.now }
 {
@@ -29,6 +29,7 @@ fn bare(f: &Row) -> Row
     g
 }
 
+// A bare row has no type of its own, nor has a year below 100: what reads a row takes any, and a year is asked for as a month over 12.
 // The days of month k in the day set of a daily frame without positions.
 fn day_count(g: &Row, k: u64) -> u64
     requires { (k < window_months) × (Bare g.now) }
@@ -51,35 +52,31 @@ fn from_front(g: &Row, y: u64, mask: u64) -> Reached
 {
     let mut left = mask;
     let mut counts = 0;
-    let mut m = 0;
-    while m < 12 {
+    for m in 0..12 {
         if left < 2 {
             return Reached { months: m, counts };
         }
         let here = day_count(g, 12 * y + m);
-        counts = counts + (here << (WIDTH * m));
-        left = left >> here;
-        m = m + 1;
+        counts += here << (WIDTH * m);
+        left >>= here;
     }
-    Reached { months: m, counts }
+    Reached { months: 12, counts }
 }
 
-// And from December down, the first so many aside.
+// And from December down, the first so many aside: no twin, since it ends where those begin.
 fn from_back(g: &Row, y: u64, mask: u64, front: Reached) -> u64
     requires { (y < 100) × (Bare g.now) × (front.months ≤ 12) × (front.counts ≡ packed (outer (day_count (rule_of g.now)) (12 * y) front.months 0) 12 (12 * y)) }
     ensures { result ≡ packed (outer (day_count (rule_of g.now)) (12 * y) front.months (reach_back (day_count (rule_of g.now)) mask 12 (12 * y))) 12 (12 * y) }
 {
     let mut left = mask;
     let mut counts = front.counts;
-    let mut m = 12;
-    while front.months < m {
+    for m in (front.months..12).rev() {
         if left < 2 {
             return counts;
         }
-        m = m - 1;
         let here = day_count(g, 12 * y + m);
-        counts = counts + (here << (WIDTH * m));
-        left = left >> here;
+        counts += here << (WIDTH * m);
+        left >>= here;
     }
     counts
 }
@@ -98,30 +95,23 @@ fn counted(f: &Row, y: u64) -> u64
 pub fn is_yearly(f: &Row) -> bool
     ensures { result ≡ yearly f.now }
 {
-    both(
-        f[places::KIND] == kinds::RULE,
-        f[places::FREQUENCY] == kinds::YEARLY,
-    )
+    f[places::KIND] == kinds::RULE && f[places::FREQUENCY] == kinds::YEARLY
 }
 
 // Whether the frame's positions count over a year.
+#[tactic(auto, unfolding(crate::specs::Years::year_placed))]
 pub fn is_placed(f: &Row) -> bool
     ensures { result ≡ year_placed f.now }
 {
-    if is_yearly(f) {
-        return !no_limit(numbers::positions_of(f));
-    }
-    false
+    is_yearly(f) && !no_limit(numbers::positions_of(f))
 }
 
 // The counts of year 2000 + y where the frame's positions go by them, else 0.
+#[tactic(auto, using(crate::proofs::YearSets::no_counts), unfolding(crate::specs::Years::year_counts, crate::specs::Years::year_placed))]
 pub fn year_counts(f: &Row, y: u64) -> u64
     ensures { result ≡ year_counts f.now y }
 {
-    if YEARS <= y {
-        return 0;
-    }
-    if is_placed(f) {
+    if y < YEARS && is_placed(f) {
         return counted(f, y);
     }
     0
@@ -132,13 +122,9 @@ fn sum(counts: u64, n: u64) -> u64
     requires { n ≤ 12 }
     ensures { result ≡ packed_sum n counts }
 {
-    let mut left = counts;
     let mut passed = 0;
-    let mut i = 0;
-    while i < n {
-        passed = passed + left % COUNT;
-        left = left / COUNT;
-        i = i + 1;
+    for i in 0..n {
+        passed += (counts >> (WIDTH * i)) % COUNT;
     }
     passed
 }
@@ -155,16 +141,15 @@ fn left_of(mask: u64, others: u64, here: u64) -> u64
 }
 
 // Whether these counts of a yearly rule have no day of month k.
+#[tactic(auto, using(crate::proofs::YearSets::five_bits), unfolding(crate::specs::Years::none_counted))]
 pub(crate) fn none_counted(f: &Row, counts: u64, k: u64) -> bool
     ensures { result ≡ none_counted (rule_of f.now) counts k }
 {
-    if f[places::FREQUENCY] == kinds::YEARLY {
-        return (counts >> (WIDTH * (k % 12))) % COUNT == 0;
-    }
-    false
+    f[places::FREQUENCY] == kinds::YEARLY && (counts >> (WIDTH * (k % 12))) % COUNT == 0
 }
 
 // The positions for month k.
+#[tactic(auto, using(crate::proofs::YearSets::five_bits), unfolding(crate::specs::Years::positions_in))]
 pub(crate) fn positions_in(f: &Row, counts: u64, k: u64) -> Ends
     ensures { result ≡ positions_in (rule_of f.now) counts k }
 {

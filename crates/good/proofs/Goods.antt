@@ -1,20 +1,29 @@
 -- What the tests of a frame's numbers are, one by one.
-use mathlib.Core.Bool.{Bool, true, false, not, ◌&&◌, ◌||◌, or-false, and-true}
+use mathlib.Core.Bool.{Bool, true, false, and-true}
 use mathlib.Core.List.{List}
 use mathlib.Core.Logic.{dite}
 use mathlib.Core.Path.{◌≡◌, refl, sym, ◌∙◌}
 use Prim.Native.Nat.{ℕ, ◌+◌, ◌/◌, ◌%◌, ◌<◌}
 use native.Mathlib.Decide.{ℕ_discrete}
 use native.Mathlib.Nat.{div-one, mod-one}
-use borrow.Author.Tests.{eq-eqb, ne_eqb}
+use borrow.Author.Tests.{eq-eqb, ne_eqb, lt-ltb}
+use mir.Syntax.{w64}
+use native.Mathlib.Omega.{arith}
+use Rattle.std.specs.Int.{to_be_bytes}
+use Rattle.std.specs.List.{list_all, AllWithin, HoldsAt}
 use lib.Dec.{ltb, eqb}
+use lib.ListN.{length}
+use Rattle.std.specs.Bool.{MatchBool}
+use Rattle.std.proofs.lemmas.List.Elements.{All-from_all_within}
+use Rattle.std.proofs.lemmas.List.Folds.{list_all_at}
+use Rattle.std.proofs.lemmas.List.Sums.{list_all-from_AllPass}
 use Rattle.days.proofs.Answers.{this_day, not_this_day}
 use Rattle.frames.specs.Numbers.{day_held}
-use Rattle.frames.specs.Rule.{no_limit, rule_day, rule_occurs}
+use Rattle.frames.specs.Rule.{rule_day, rule_occurs}
 use Rattle.days.specs.Search.{least_day}
 use Rattle.frames.specs.declared.Rule.{Rule}
 use Rattle.plan.specs.Rows.{row_of}
-use Rattle.plan.specs.Taken.{only_bits, ordinals_good, any_day, frequency_good}
+use Rattle.plan.specs.Taken.{only_bits, ordinals_good}
 use Rattle.plan.specs.declared.Frame.{Frame}
 
 -- a test a, whose answer r let the code stop or go on
@@ -24,46 +33,35 @@ stopped e n = sym e ∙ n
 pub passed : {r a : Bool} → r ≡ a → r ≡ true → a ≡ true
 passed e n = sym e ∙ n
 
+-- what a call of `all` found of a test
+pub by_test : (p : ℕ → Bool) (r : Bool) (xs : List ℕ)
+    → MatchBool r (AllWithin (λ b. p b ≡ true) xs 0 (length xs)) ((k : ℕ) × (k < length xs) × HoldsAt (λ b. p b ≡ false) xs k)
+    → r ≡ list_all p xs
+by_test p true xs h = sym (list_all-from_AllPass p xs (All-from_all_within (λ b. p b ≡ true) xs h))
+by_test p false xs h = sym (list_all_at p xs h.0 0 h.1 (h.2 0))
+
 -- a weekday mask has no bit above 6 exactly if it is below 128
 weekday_bits : (m : ℕ) → only_bits 0 6 m ≡ ltb m 128
 weekday_bits m = rw (mod-one m)
 
-pub ordinals_by_bytes : (g : ℕ)
-    → ordinals_good g
-    ≡ (ltb g 1099511627776
-    && (ltb (g / 4294967296 % 256) 128 && (ltb (g / 16777216 % 256) 128 && (ltb (g / 65536 % 256) 128 && (ltb (g / 256 % 256) 128 && ltb (g % 256) 128)))))
-ordinals_by_bytes g =
+pub ordinals_by_bytes : (g : ℕ) → g < 1099511627776 → list_all (λ b. ltb b 128) (to_be_bytes w64 g) ≡ ordinals_good g
+ordinals_by_bytes g h =
+    let a : g / 1099511627776 % 256 ≡ 0 = omega arith in
+    let b : g / 281474976710656 % 256 ≡ 0 = omega arith in
+    let c : g / 72057594037927936 % 256 ≡ 0 = omega arith in
     rw (
+      a,
+      b,
+      c,
+      lt-ltb g 1099511627776 h,
       weekday_bits (g / 4294967296 % 256),
       weekday_bits (g / 16777216 % 256),
       weekday_bits (g / 65536 % 256),
       weekday_bits (g / 256 % 256),
       weekday_bits (g / 1 % 256),
       div-one g,
+      and-true,
     )
-
--- the limits of each frequency
-module _ (f : Rule) where
-  pub daily_good : f.frequency ≡ 1 → frequency_good f ≡ (no_limit f.ordinals && no_limit f.positions)
-  unfolding frequency_good
-  daily_good e = rw e (or-false (no_limit f.ordinals && no_limit f.positions))
-
-  pub weekly_good : f.frequency ≡ 2
-      → frequency_good f ≡ (ltb 0 f.weekdays && (no_limit f.days && (no_limit f.ordinals && no_limit f.positions)))
-  unfolding frequency_good
-  weekly_good e = rw e (or-false (ltb 0 f.weekdays && (no_limit f.days && (no_limit f.ordinals && no_limit f.positions))))
-
-  pub monthly_good : f.frequency ≡ 3 → frequency_good f ≡ any_day f
-  unfolding frequency_good
-  monthly_good e = rw e (or-false (any_day f))
-
-  pub yearly_good : f.frequency ≡ 4 → frequency_good f ≡ (any_day f && (no_limit f.ordinals || ltb 0 f.months))
-  unfolding frequency_good
-  yearly_good e = rw e
-
-  pub no_frequency : (f.frequency ≡ 1 → ⊥) → (f.frequency ≡ 2 → ⊥) → (f.frequency ≡ 3 → ⊥) → (f.frequency ≡ 4 → ⊥) → frequency_good f ≡ false
-  unfolding frequency_good
-  no_frequency a b c d = simp (ne_eqb f.frequency 1 a, ne_eqb f.frequency 2 b, ne_eqb f.frequency 3 c, ne_eqb f.frequency 4 d)
 
 -- a day by itself is the least of itself exactly if it is held
 day_found : (l : List ℕ) (d : ℕ) → d < 36525 → eqb (least_day l d (d + 1)) d ≡ day_held l d

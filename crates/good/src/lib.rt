@@ -15,6 +15,7 @@ mod cron;
 pub mod rule;
 
 // Whether a frame's numbers are allowed, wherever it stands.
+#[tactic(auto, unfolding(plan::specs::Taken::frame_good))]
 pub fn frame_good(frame: Frame) -> bool
     ensures { result ≡ frame_good frame }
 {
@@ -23,8 +24,7 @@ pub fn frame_good(frame: Frame) -> bool
         Frame::Change(t) => limits::in_range(t),
         Frame::Cron(f) => cron_good(f),
         Frame::Rule(f) => rule_good(f),
-        Frame::Extra(m) => m < window::MINUTES,
-        Frame::Excepted(m) => m < window::MINUTES,
+        Frame::Extra(m) | Frame::Excepted(m) => m < window::MINUTES,
         Frame::End(_) => true,
     }
 }

@@ -5,94 +5,61 @@ ghost use Rattle.zone.specs.Zone.{in_window};
 ghost use Rattle.plan.specs.Taken.{ordinals_good, places_good, any_day, frequency_good, rule_good};
 
 use crate::bits::{only_bits, pair_good};
-use calendar::num::lies_within;
 use calendar::window;
 use days::ranges;
 use frames::limits::no_limit;
-use frames::truth::both;
 use frames::{Rule, kinds};
 use plan::{Frame, text};
 
 const MOST_INTERVAL: u64 = 999;
+// The numbers of five bytes.
+const ORDINALS_END: u64 = 1 << 40;
 
 // Five bytes, the top bit of each clear.
 fn ordinals_good(g: u64) -> bool
     ensures { result ≡ ordinals_good g }
 {
-    if 1099511627776 <= g {
-        return false;
-    }
-    if 128 <= g / 4294967296 % 256 {
-        return false;
-    }
-    if 128 <= g / 16777216 % 256 {
-        return false;
-    }
-    if 128 <= g / 65536 % 256 {
-        return false;
-    }
-    if 128 <= g / 256 % 256 {
-        return false;
-    }
-    g % 256 < 128
+    g < ORDINALS_END && g.to_be_bytes().iter().all(|byte| *byte < 128)
 }
 
+#[tactic(auto, unfolding(plan::specs::Taken::places_good))]
 fn places_good(f: Rule) -> bool
     ensures { result ≡ places_good f }
 {
-    if !only_bits(f.weekdays, 0, 6) {
-        return false;
-    }
-    if !pair_good(f.days) {
-        return false;
-    }
-    let ordinals = f.ordinals;
-    if !ordinals_good(ordinals.front) {
-        return false;
-    }
-    if !ordinals_good(ordinals.back) {
-        return false;
-    }
-    both(pair_good(f.positions), only_bits(f.months, 1, 12))
+    only_bits(f.weekdays, 0, 6)
+        && pair_good(f.days)
+        && ordinals_good(f.ordinals.front)
+        && ordinals_good(f.ordinals.back)
+        && pair_good(f.positions)
+        && only_bits(f.months, 1, 12)
 }
 
 // A month day or a weekday is set.
 fn any_day(f: Rule) -> bool
     ensures { result ≡ any_day f }
 {
-    !both(
-        f.weekdays == 0,
-        both(no_limit(f.days), no_limit(f.ordinals)),
-    )
+    f.weekdays != 0 || !no_limit(f.days) || !no_limit(f.ordinals)
 }
 
 // A yearly rule's ordinals are of a month that is set.
 fn months_named(f: Rule) -> bool
     ensures { result ≡ (no_limit f.ordinals || ltb 0 f.months) }
 {
-    if no_limit(f.ordinals) {
-        return true;
-    }
-    0 < f.months
+    no_limit(f.ordinals) || 0 < f.months
 }
 
+#[tactic(auto, unfolding(plan::specs::Taken::frequency_good))]
 fn frequency_good(f: Rule) -> bool
     ensures { result ≡ frequency_good f }
 {
-    let plain = both(no_limit(f.ordinals), no_limit(f.positions));
-    if f.frequency == kinds::DAILY {
-        return plain;
+    let plain = no_limit(f.ordinals) && no_limit(f.positions);
+    match f.frequency {
+        kinds::DAILY => plain,
+        kinds::WEEKLY => f.weekdays != 0 && no_limit(f.days) && plain,
+        kinds::MONTHLY => any_day(f),
+        kinds::YEARLY => any_day(f) && months_named(f),
+        _ => false,
     }
-    if f.frequency == kinds::WEEKLY {
-        return both(0 < f.weekdays, both(no_limit(f.days), plain));
-    }
-    if f.frequency == kinds::MONTHLY {
-        return any_day(f);
-    }
-    if f.frequency == kinds::YEARLY {
-        return both(any_day(f), months_named(f));
-    }
-    false
 }
 
 // Whether the start is an occurrence.
@@ -107,23 +74,14 @@ pub fn start_held(f: Rule) -> bool
     ranges::least_day(&row, day, day + 1) == day
 }
 
+#[tactic(auto, unfolding(plan::specs::Taken::rule_good))]
 pub(crate) fn rule_good(f: Rule) -> bool
     ensures { result ≡ rule_good f }
 {
-    if !frequency_good(f) {
-        return false;
-    }
-    if !places_good(f) {
-        return false;
-    }
-    if !lies_within(1, MOST_INTERVAL, f.interval) {
-        return false;
-    }
-    if window::MINUTES <= f.last {
-        return false;
-    }
-    if f.last < f.start {
-        return false;
-    }
-    start_held(f)
+    frequency_good(f)
+        && places_good(f)
+        && (1..=MOST_INTERVAL).contains(&f.interval)
+        && f.last < window::MINUTES
+        && f.start <= f.last
+        && start_held(f)
 }

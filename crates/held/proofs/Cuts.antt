@@ -4,7 +4,7 @@ use mathlib.Core.List.{List}
 use mathlib.Core.Logic.{dite}
 use mathlib.Core.Path.{◌≡◌, sym, ◌∙◌}
 use Prim.Native.Nat.{ℕ, ◌+◌, ◌-◌, ◌%◌, ◌<◌, ◌≤◌}
-use native.Mathlib.Decide.{dec_lt}
+use native.Mathlib.Decide.{dec_lt, ℕ_discrete as dec_eq}
 use native.Mathlib.Omega.{arith}
 use borrow.Author.Tests.{eq-eqb, ne_eqb, le-leb, lt-leb}
 use lib.Dec.{leb, eqb}
@@ -34,7 +34,7 @@ pub cron_held_lem : (l : List ℕ) → get_or l 0 0 ≡ 3 → (m : ℕ) → fram
 unfolding day_held time_part frame_held cron_held
 cron_held_lem l e m = rw (eq-eqb (get_or l 0 0) 3 e)
 
-pub cron_cut : (l : List ℕ) (end : ℕ) → get_or l 0 0 ≡ 3 → Cut (minute_part l) (frame_held l) end end
+cron_cut : (l : List ℕ) (end : ℕ) → get_or l 0 0 ≡ 3 → Cut (minute_part l) (frame_held l) end end
 cron_cut l end e = record { to = omega arith; same = λ m h. sym (cron_held_lem l e m); none = λ m a b. absurd (omega arith) }
 
 -- a rule's, and it is not after *last*
@@ -56,16 +56,17 @@ module _ (l : List ℕ) (n3 : get_or l 0 0 ≡ 3 → ⊥) (e : get_or l 0 0 ≡ 
   pub rule_whole : (end : ℕ) → end ≤ get_or l 4 0 → Cut (minute_part l) (frame_held l) end end
   rule_whole end h = record { to = omega arith; same = λ m b. rule_same m (omega arith); none = λ m a b. absurd (omega arith) }
 
--- and no frame of another kind but an extra minute holds any
-pub other_cut : (l : List ℕ) (end : ℕ) → (get_or l 0 0 ≡ 3 → ⊥) → (get_or l 0 0 ≡ 4 → ⊥) → (get_or l 0 0 ≡ 5 → ⊥)
-    → Cut (minute_part l) (frame_held l) end end
+-- and no frame of another kind but a cron frame and an extra minute holds any: what is no rule is not cut
+pub other_cut : (l : List ℕ) (end : ℕ) → (get_or l 0 0 ≡ 4 → ⊥) → (get_or l 0 0 ≡ 5 → ⊥) → Cut (minute_part l) (frame_held l) end end
 unfolding day_held frame_held
-other_cut l end p q r =
+other_cut l end q r =
+    dite (dec_eq (get_or l 0 0) 3) (cron_cut l end)
+    (λ (p : get_or l 0 0 ≡ 3 → ⊥).
     record {
       to = omega arith;
       same = λ m h. rw (ne_eqb (get_or l 0 0) 3 p, ne_eqb (get_or l 0 0) 4 q, ne_eqb (get_or l 0 0) 5 r);
       none = λ m a b. absurd (omega arith);
-    }
+    })
 
 -- an extra minute is held alone
 pub extra_held : (l : List ℕ) → (get_or l 0 0 ≡ 5) → (m : ℕ) → frame_held l m ≡ eqb m (get_or l 1 0)

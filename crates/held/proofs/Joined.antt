@@ -1,5 +1,5 @@
 -- The least and the last of two tests together, and the frames of a list one after the other.
-use mathlib.Core.Bool.{Bool, true, false, ◌||◌, or-true, or-false, or_assoc, true≢false}
+use mathlib.Core.Bool.{Bool, false, ◌||◌, or-true, or-false, or_assoc}
 use mathlib.Core.List.{List, [], ◌∷◌}
 use mathlib.Core.Logic.{dite}
 use mathlib.Core.Path.{◌≡◌, refl, sym, ap, ◌∙◌}
@@ -7,6 +7,7 @@ use Prim.Native.Nat.{ℕ, zero, suc, ◌+◌, ◌-◌, ◌<◌, ◌≤◌, min}
 use native.Mathlib.Decide.{dec_lt}
 use native.Mathlib.Omega.{arith}
 use lib.ListN.{get_or, take}
+use Rattle.std.specs.List.{list_any}
 use Rattle.calendar.proofs.Leasts.{Least, Last}
 use Rattle.calendar.specs.Below.{any_of}
 use Rattle.held.specs.Lists.{frame_excepts, any_held, any_excepts}
@@ -52,33 +53,21 @@ any_next test n (x ∷ xs) zero = or-false (test x)
 any_next test n (x ∷ xs) (suc i) =
     ap (λ (b : Bool). test x || b) (any_next test n xs i) ∙ sym (or_assoc (test x) (any_of test (take i xs)) (test (get_or xs i [])))
 
--- one that passes is enough
-any_some : (test : List ℕ → Bool) → test [] ≡ false → (fs : List (List ℕ)) (i n : ℕ) → i < n → test (get_or fs i []) ≡ true
-    → any_of test (take n fs) ≡ true
-any_some test e fs i zero h t = absurd (omega arith)
-any_some test e [] i (suc n) h t = absurd (true≢false (sym t ∙ e))
-any_some test e (x ∷ xs) zero (suc n) h t = rw t
-any_some test e (x ∷ xs) (suc i) (suc n) h t = rw (any_some test e xs i n (omega arith) t) (or-true (test x))
+-- the library's word for the same
+some_is : (test : List ℕ → Bool) (fs : List (List ℕ)) → any_of test fs ≡ list_any test fs
+some_is test [] = refl
+some_is test (f ∷ fs) = ap (λ (b : Bool). test f || b) (some_is test fs)
+
+pub excepts_is : (fs : List (List ℕ)) (m : ℕ) → any_excepts fs m ≡ list_any (λ (l : List ℕ). frame_excepts l m) fs
+excepts_is fs m = some_is (λ (l : List ℕ). frame_excepts l m) fs
 
 none_holds : (m : ℕ) → frame_held [] m ≡ false
 unfolding frame_held
 none_holds m = refl
 
-none_excepts : (m : ℕ) → frame_excepts [] m ≡ false
-unfolding frame_excepts
-none_excepts m = refl
-
 pub held_next : (fs : List (List ℕ)) (i m : ℕ) → any_held (take (i + 1) fs) m ≡ (any_held (take i fs) m || frame_held (get_or fs i []) m)
 held_next fs i m =
     let e : i + 1 ≡ suc i = omega arith in rw e (any_next (λ (l : List ℕ). frame_held l m) (none_holds m) fs i)
-
-pub excepts_next : (fs : List (List ℕ)) (i m : ℕ)
-    → any_excepts (take (i + 1) fs) m ≡ (any_excepts (take i fs) m || frame_excepts (get_or fs i []) m)
-excepts_next fs i m =
-    let e : i + 1 ≡ suc i = omega arith in rw e (any_next (λ (l : List ℕ). frame_excepts l m) (none_excepts m) fs i)
-
-pub some_excepts : (fs : List (List ℕ)) (i n m : ℕ) → i < n → frame_excepts (get_or fs i []) m ≡ true → any_excepts (take n fs) m ≡ true
-some_excepts fs i n m h t = any_some (λ (l : List ℕ). frame_excepts l m) (none_excepts m) fs i n h t
 
 -- a frame's answer in a range that ends within the window
 pub least_minute_least : (l : List ℕ) (low high : ℕ) → low ≤ high → high ≤ 52596000 → Least (frame_held l) low high (least_minute l low high)

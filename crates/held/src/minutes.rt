@@ -1,4 +1,4 @@
-// The held minutes of a range of local minutes, by their day and their time of day.
+// The held minutes of a range of local minutes, by their day and their time of day. A range stays two numbers with its bounds in the clauses, here, in lists and in one: `Least` and `Last` speak of both.
 ghost use Rattle.std.specs.Prelude.{◌≡◌, ◌*◌, ◌-◌, ◌/◌, ◌%◌, ◌≤◌, ◌<◌};
 ghost use Rattle.frames.specs.Kinds.{kind_in, extra_kind};
 ghost use Rattle.calendar.specs.Window.{day_minutes, window_minutes};
@@ -7,7 +7,6 @@ ghost use Rattle.held.specs.Minutes.{frame_held, time_part, minute_part, Cut};
 ghost use Rattle.held.specs.Minutes.{least_minute, last_minute};
 
 use crate::{one, times};
-use calendar::num::{larger, lesser};
 use calendar::window;
 use calendar::window::{DAY, LAST_OF_DAY};
 use days::ranges;
@@ -26,9 +25,9 @@ fn from_time(f: &Row, low: u64, time: u64, high: u64) -> u64
         return high;
     }
     if found == day {
-        return lesser(DAY * found + time, high);
+        return (DAY * found + time).min(high);
     }
-    lesser(DAY * found + times::next_time(f, 0), high)
+    (DAY * found + times::next_time(f, 0)).min(high)
 }
 
 // The least minute from low up to high by day and time of day.
@@ -63,9 +62,9 @@ fn up_to_time(f: &Row, low: u64, high: u64, time: u64) -> u64
         return low;
     }
     if day < past {
-        return larger(DAY * day + time, low);
+        return (DAY * day + time).max(low);
     }
-    larger(DAY * (past - 1) + times::last_time(f, DAY), low)
+    (DAY * (past - 1) + times::last_time(f, DAY)).max(low)
 }
 
 // One more than the greatest minute from low up to high by day and time of day.
@@ -93,13 +92,7 @@ fn cut(f: &Row, end: u64) -> u64
     requires { kind_in f.now ≡ extra_kind → ⊥ }
     ensures { Cut (minute_part f.now) (frame_held f.now) end result }
 {
-    if f[places::KIND] == kinds::CRON {
-        return end;
-    }
-    if f[places::KIND] != kinds::RULE {
-        return end;
-    }
-    if f[places::LAST] < end {
+    if f[places::KIND] == kinds::RULE && f[places::LAST] < end {
         return f[places::LAST] + 1;
     }
     end
@@ -109,7 +102,7 @@ fn cut(f: &Row, end: u64) -> u64
 pub fn least_minute(f: &Row, low: u64, high: u64) -> u64
     ensures { result ≡ least_minute f.now low high }
 {
-    let end = lesser(high, window::MINUTES);
+    let end = high.min(window::MINUTES);
     if end <= low {
         return low;
     }
@@ -131,7 +124,7 @@ pub fn least_minute(f: &Row, low: u64, high: u64) -> u64
 pub fn last_minute(f: &Row, low: u64, high: u64) -> u64
     ensures { result ≡ last_minute f.now low high }
 {
-    let end = lesser(high, window::MINUTES);
+    let end = high.min(window::MINUTES);
     if end <= low {
         return low;
     }

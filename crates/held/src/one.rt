@@ -7,13 +7,7 @@ pub(crate) fn least_one(n: u64, low: u64, high: u64) -> u64
     requires { low ≤ high }
     ensures { Least (λ m. eqb m n) low high result }
 {
-    if n < low {
-        return high;
-    }
-    if high <= n {
-        return high;
-    }
-    n
+    if (low..high).contains(&n) { n } else { high }
 }
 
 // One more than n if it is in the range, else low.
@@ -21,11 +15,5 @@ pub(crate) fn last_one(n: u64, low: u64, high: u64) -> u64
     requires { low ≤ high }
     ensures { Last (λ m. eqb m n) low high result }
 {
-    if n < low {
-        return low;
-    }
-    if high <= n {
-        return low;
-    }
-    n + 1
+    if (low..high).contains(&n) { n + 1 } else { low }
 }

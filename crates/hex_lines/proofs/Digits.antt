@@ -11,10 +11,10 @@ use Rattle.hex_lines.specs.Hex.{hex_digit, digit_value, digit_bits}
 
 pub data Digit (c : ℕ) : Type 0 where
   figure : 48 ≤ c → c ≤ 57 → digit_value c ≡ c - 48 → Digit c
-  letter : 65 ≤ c → c ≤ 70 → digit_value c ≡ c - 55 → Digit c
+  letter : 65 ≤ c → c ≤ 70 → digit_value c ≡ c - 65 + 10 → Digit c
   other : digit_value c ≡ 16 → Digit c
 
-pub below_figures : (c : ℕ) → c < 48 → digit_value c ≡ 16
+below_figures : (c : ℕ) → c < 48 → digit_value c ≡ 16
 unfolding digit_value
 below_figures c h = simp (lt-leb 48 c h, lt-leb 65 c (omega arith))
 
@@ -22,17 +22,15 @@ pub a_figure : (c : ℕ) → 48 ≤ c → c ≤ 57 → digit_value c ≡ c - 48
 unfolding digit_value
 a_figure c l h = simp (le-leb 48 c l, le-leb c 57 h)
 
-pub between : (c : ℕ) → 57 < c → c < 65 → digit_value c ≡ 16
+between : (c : ℕ) → 57 < c → c < 65 → digit_value c ≡ 16
 unfolding digit_value
 between c l h = simp (le-leb 48 c (omega arith), lt-leb c 57 l, lt-leb 65 c h)
 
-pub a_letter : (c : ℕ) → 65 ≤ c → c ≤ 70 → digit_value c ≡ c - 55
+pub a_letter : (c : ℕ) → 65 ≤ c → c ≤ 70 → digit_value c ≡ c - 65 + 10
 unfolding digit_value
-a_letter c l h =
-    let e : c - 65 + 10 ≡ c - 55 = omega arith in
-    simp (le-leb 48 c (omega arith), lt-leb c 57 (omega arith), le-leb 65 c l, le-leb c 70 h) e
+a_letter c l h = simp (le-leb 48 c (omega arith), lt-leb c 57 (omega arith), le-leb 65 c l, le-leb c 70 h)
 
-pub above_letters : (c : ℕ) → 70 < c → digit_value c ≡ 16
+above_letters : (c : ℕ) → 70 < c → digit_value c ≡ 16
 unfolding digit_value
 above_letters c h = simp (le-leb 48 c (omega arith), lt-leb c 57 (omega arith), le-leb 65 c (omega arith), lt-leb c 70 h)
 
@@ -47,8 +45,9 @@ digit c =
     dite (dec_lt c 71) (λ (e : c < 71). letter (omega arith) (omega arith) (a_letter c (omega arith) (omega arith)))
     (λ (e : c < 71 → ⊥). other (above_letters c (omega arith))))))
 
-pub value_at_most : (c : ℕ) → digit_value c ≤ 16
-value_at_most c = elim (digit c) [ figure l h e ↦ omega arith | letter l h e ↦ omega arith | other e ↦ omega arith ]
+-- what is neither a figure nor a letter is no digit
+pub no_digit : (c : ℕ) → (48 ≤ c → 57 < c) → (65 ≤ c → 70 < c) → digit_value c ≡ 16
+no_digit c a b = elim (digit c) [ figure l h e ↦ absurd (omega (arith, a l)) | letter l h e ↦ absurd (omega (arith, b l)) | other e ↦ e ]
 
 -- a digit is no LF
 pub no_line_end : (c : ℕ) → digit_value c < 16 → c ≡ 10 → ⊥
@@ -78,7 +77,7 @@ unfolding hex_digit
 byte_of_value c d =
     elim (digit c) [
       | figure l h e ↦ rw (e, lt-ltb (c - 48) 10 (omega arith)) (omega arith)
-      | letter l h e ↦ rw (e, le-ltb (c - 55) 10 (omega arith)) (omega arith)
+      | letter l h e ↦ rw (e, le-ltb (c - 65 + 10) 10 (omega arith)) (omega arith)
       | other e ↦ absurd (omega arith)
     ]
 

@@ -1,7 +1,7 @@
 -- A line of fields, each a number of so many bytes: written and read, read and written.
+use Rattle.std.specs.Prelude.{Some}
 use mathlib.Core.Bool.{true, and-eq-true_iff}
 use mathlib.Core.List.{List, [], ◌∷◌, ◌++◌, append-nil, append_assoc}
-use mathlib.Core.Option.{some}
 use mathlib.Core.Path.{◌≡◌, refl, sym, ◌∙◌}
 use Prim.Native.Nat.{ℕ, ◌+◌, ◌*◌, ◌≤◌}
 use native.Mathlib.Omega.{arith}
@@ -37,7 +37,7 @@ hexes_cons : (f : Field) (fs : List Field) → hexes (f ∷ fs) ≡ hex_of f.0 f
 hexes_cons f [] = sym (append-nil (hex_of f.0 f.1))
 hexes_cons f (g ∷ fs) = refl
 
-fields_from : (ks : List ℕ) (at : ℕ) (line bytes : List ℕ) → line_bytes line ≡ some bytes → at + total ks ≡ length bytes
+fields_from : (ks : List ℕ) (at : ℕ) (line bytes : List ℕ) → line_bytes line ≡ Some bytes → at + total ks ≡ length bytes
     → hexes (valued (field bytes) at ks) ≡ drop (2 * at) line
 fields_from [] at line bytes e h = sym (drop_of_length-le line {i = 2 * at} (omega (arith, two_digits line bytes e)))
 fields_from (k ∷ ks) at line bytes e h =
@@ -50,7 +50,7 @@ fields_from (k ∷ ks) at line bytes e h =
     hexes_cons (k, field bytes at k) (valued (field bytes) (at + k) ks) ∙ rw (a, b) (take-append-drop (2 * k) (drop (2 * at) line))
 
 -- the fields read from a line write that line
-pub read_and_written : (ks : List ℕ) (line bytes : List ℕ) → line_bytes line ≡ some bytes → total ks ≡ length bytes
+pub read_and_written : (ks : List ℕ) (line bytes : List ℕ) → line_bytes line ≡ Some bytes → total ks ≡ length bytes
     → hexes (valued (field bytes) 0 ks) ≡ line
 read_and_written ks line bytes e h = fields_from ks 0 line bytes e (omega arith)
 
@@ -63,7 +63,7 @@ unfolding all_bytes
 length_all [] = refl
 length_all (f ∷ fs) = length-append (bytes_of f.0 f.1) (all_bytes fs) ∙ rw (length_bytes f.0 f.1, length_all fs)
 
-pub fields_spell : (fs : List Field) → line_bytes (hexes fs) ≡ some (all_bytes fs)
+pub fields_spell : (fs : List Field) → line_bytes (hexes fs) ≡ Some (all_bytes fs)
 unfolding all_bytes
 fields_spell [] = nothing_spells
 fields_spell (f ∷ fs) =

@@ -60,6 +60,11 @@ last_digits l at i v h =
     let past : at + length (s ++ (a ∷ b ∷ [])) ≡ suc (suc n) = rw (length-append s (a ∷ b ∷ []), len) (omega arith) in
     rw (past, front, len, back) (ap (λ (r : List ℕ). take at l ++ r) (sym (append_assoc s (a ∷ b ∷ []) (drop (suc (suc n)) l))))
 
+-- nothing left to do
+pub all_done : (l : List ℕ) (at k v : ℕ) → k ≡ 0 → replaced l at (hex_of k v) ≡ l
+unfolding hex_of
+all_done l at k v e = rw (e, hex_of) (nothing_replaced l at)
+
 pub put_nothing : (l : List ℕ) (at : ℕ) → at ≤ length l → put_at l at [] ≡ l
 put_nothing l at h = put_inside l at [] (omega arith) ∙ nothing_replaced l at
 

@@ -1,6 +1,6 @@
 -- Numbers written as digits and read again, and digits read and written again.
+use Rattle.std.specs.Prelude.{Some}
 use mathlib.Core.List.{List, [], ◌∷◌, ◌++◌, append_assoc}
-use mathlib.Core.Option.{some}
 use mathlib.Core.Path.{◌≡◌, refl, ap, ◌∙◌}
 use Prim.Native.Nat.{ℕ, zero, suc, ◌+◌, ◌*◌, ◌/◌, ◌%◌, ◌^◌, ◌<◌, ◌≤◌}
 use native.Mathlib.Nat.{pow-suc, div-lt_iff_lt-mul}
@@ -35,14 +35,14 @@ number_of_bytes (suc k) v h =
     let l : v / 256 < 256 ^ k = (div-lt_iff_lt-mul {k = 256} {x = v} {y = 256 ^ k} (omega arith)).1 (rw pow-suc at h) in
     number_append 0 (bytes_of k (v / 256)) (v % 256 ∷ []) ∙ rw (number_of_bytes k (v / 256) l) (omega arith)
 
-pub spelt_append : (a b x y : List ℕ) → line_bytes a ≡ some x → line_bytes b ≡ some y → line_bytes (a ++ b) ≡ some (x ++ y)
+pub spelt_append : (a b x y : List ℕ) → line_bytes a ≡ Some x → line_bytes b ≡ Some y → line_bytes (a ++ b) ≡ Some (x ++ y)
 spelt_append [] b x y p q = rw (no_digits x p) q
 spelt_append (c ∷ []) b x y p q = one_digit c x p
 spelt_append (c ∷ d ∷ cs) b x y p q =
     let s : Spelt c d cs x = spelt c d cs x p in
     rw s.made (spelt_back c d (cs ++ b) (s.rest ++ y) s.high s.low (spelt_append cs b s.rest y s.more q))
 
-two_spelt : (v : ℕ) → line_bytes (hex_digit (v / 16 % 16) ∷ hex_digit (v % 16) ∷ []) ≡ some (v % 256 ∷ [])
+two_spelt : (v : ℕ) → line_bytes (hex_digit (v / 16 % 16) ∷ hex_digit (v % 16) ∷ []) ≡ Some (v % 256 ∷ [])
 two_spelt v =
     let a : digit_value (hex_digit (v / 16 % 16)) ≡ v / 16 % 16 = value_of_byte (v / 16 % 16) (omega arith) in
     let b : digit_value (hex_digit (v % 16)) ≡ v % 16 = value_of_byte (v % 16) (omega arith) in
@@ -50,7 +50,7 @@ two_spelt v =
     spelt_back _ _ [] [] (omega arith) (omega arith) nothing_spells ∙ rw e
 
 -- what is written spells the number's bytes
-pub hex_spells : (k v : ℕ) → line_bytes (hex_of k v) ≡ some (bytes_of k v)
+pub hex_spells : (k v : ℕ) → line_bytes (hex_of k v) ≡ Some (bytes_of k v)
 unfolding hex_of bytes_of
 hex_spells zero v = nothing_spells
 hex_spells (suc k) v = spelt_append _ _ _ _ (hex_spells k (v / 256)) (two_spelt v)
@@ -64,7 +64,7 @@ pub record DigitsAt (line bytes : List ℕ) (k : ℕ) : Type 0 where
 twice_suc_one : (k : ℕ) → 2 * suc k + 1 ≡ suc (suc (2 * k + 1))
 twice_suc_one k = omega arith
 
-pub digits_at : (k : ℕ) (line bytes : List ℕ) → line_bytes line ≡ some bytes → k < length bytes → DigitsAt line bytes k
+pub digits_at : (k : ℕ) (line bytes : List ℕ) → line_bytes line ≡ Some bytes → k < length bytes → DigitsAt line bytes k
 digits_at k [] bytes e h = absurd (omega (arith, ap length (no_digits bytes e)))
 digits_at k (a ∷ []) bytes e h = one_digit a bytes e
 digits_at zero (a ∷ b ∷ cs) bytes e h =
@@ -86,7 +86,7 @@ two_more l n h =
     rw (take-suc l (suc n) 0 b, take-suc l n 0 a, add-one n) (append_assoc (take n l) (get_or l n 0 ∷ []) (get_or l (suc n) 0 ∷ []))
 
 -- digits read and written again
-pub written_front : (k : ℕ) (line bytes : List ℕ) → line_bytes line ≡ some bytes → k ≤ length bytes
+pub written_front : (k : ℕ) (line bytes : List ℕ) → line_bytes line ≡ Some bytes → k ≤ length bytes
     → hex_of k (bytes_number 0 (take k bytes)) ≡ take (2 * k) line
 unfolding hex_of bytes_number
 written_front zero line bytes e h = refl

@@ -1,6 +1,5 @@
 -- "Upper-case hex digits .. Big-endian": numbers and bytes as digits, and digits as bytes and numbers.
-use Rattle.std.specs.Prelude.{Bool, true, false, cond, ◌&&◌, List, [], ◌∷◌, ◌++◌, ℕ, zero, suc, ◌+◌, ◌-◌, ◌*◌, ◌/◌, ◌%◌, ◌^◌, leb, ltb, eqb, length, take, drop}
-use Rattle.std.proofs.Math.Option.{Option, none, some}
+use Rattle.std.specs.Prelude.{Bool, true, false, cond, ◌&&◌, List, [], ◌∷◌, ◌++◌, ℕ, zero, suc, ◌+◌, ◌-◌, ◌*◌, ◌/◌, ◌%◌, ◌^◌, leb, ltb, eqb, length, take, drop, Option, None, Some}
 use Rattle.calendar.specs.Below.{within, all_of}
 use Rattle.lines.specs.Bytes.{byte}
 
@@ -20,14 +19,18 @@ digit_value c = cond (within (byte "0") (byte "9") c) (c - byte "0") (cond (with
 abbrev pub is_digit : ℕ → Bool
 is_digit c = ltb (digit_value c) 16
 
+-- the value of a hex digit, if it is one
+abbrev pub digit_of : ℕ → Option ℕ
+digit_of c = cond (is_digit c) (Some (digit_value c)) None
+
 -- the bytes that a line's digits spell, two digits each
 unfoldable pub line_bytes : List ℕ → Option (List ℕ)
-line_bytes [] = some []
-line_bytes (a ∷ []) = none
+line_bytes [] = Some []
+line_bytes (a ∷ []) = None
 line_bytes (a ∷ b ∷ cs) =
     elim (is_digit a && is_digit b) [
-      | true ↦ elim (line_bytes cs) [ none ↦ none | some bytes ↦ some ((16 * digit_value a + digit_value b) ∷ bytes) ]
-      | false ↦ none
+      | true ↦ elim (line_bytes cs) [ None ↦ None | Some bytes ↦ Some ((16 * digit_value a + digit_value b) ∷ bytes) ]
+      | false ↦ None
     ]
 
 -- whether a line spells bytes: an even number of digits and nothing else

@@ -2,101 +2,93 @@
 #![tactic(auto)]
 
 ghost use Rattle.std.specs.Prelude.{◌≡◌, ◌<◌};
-ghost use Rattle.hex_lines.specs.Hex.{hex_digit, hex_of, digit_value, digit_bits, spells, number_at, put_at};
+ghost use Rattle.std.specs.List.{list_all};
+ghost use Rattle.hex_lines.specs.Hex.{hex_digit, hex_of, digit_of, is_digit, digit_bits, spells, number_at, put_at};
 
-// The value of a digit, or 16.
-pub fn digit_value(c: u8) -> u64
-    ensures { result ≡ digit_value c }
+// The value of a digit, and none of any other byte.
+#[tactic(auto, using(crate::proofs::Digits::a_figure, crate::proofs::Digits::a_letter, crate::proofs::Digits::no_digit))]
+pub fn digit_value(c: u8) -> Option<u64>
+    ensures { result ≡ digit_of c }
 {
-    if c < 48 {
-        return 16;
+    match c {
+        b'0'..=b'9' => Some(u64::from(c - b'0')),
+        b'A'..=b'F' => Some(u64::from(c - b'A') + 10),
+        _ => None,
     }
-    if c <= 57 {
-        return (c - 48) as u64;
+}
+
+// `all` stops at the first other byte, and takes several times as long over digits.
+fn all_digits(line: &[u8]) -> bool
+    ensures { result ≡ list_all is_digit line.now }
+{
+    let mut all = true;
+    for c in line {
+        all &= digit_value(*c).is_some();
     }
-    if c < 65 {
-        return 16;
-    }
-    if c <= 70 {
-        return (c - 55) as u64;
-    }
-    16
+    all
 }
 
 // Whether the line is an even number of digits and nothing else.
+#[tactic(auto, using(crate::proofs::Spelt::spells_odd, crate::proofs::Spelt::spells_even))]
 pub fn is_line(line: &[u8]) -> bool
     ensures { result ≡ spells line.now }
 {
-    if line.len() % 2 != 0 {
-        return false;
-    }
-    let mut i = 0;
-    while i < line.len() {
-        if digit_value(line[i]) == 16 {
-            return false;
-        }
-        i += 1;
-    }
-    true
+    line.len() % 2 == 0 && all_digits(line)
 }
 
 // The value of a byte that is known for a digit, with no branch.
+#[tactic(auto, unfolding(crate::specs::Hex::digit_bits))]
 fn digit_bits(c: u8) -> u64
     ensures { result ≡ digit_bits c }
 {
-    let d = c as u64;
+    let d = u64::from(c);
     (d % 16 + 9 * (d / 64)) % 16
 }
 
 // The number of the k bytes that the digits from byte `at` on spell; 0 past the line's end or over eight bytes.
+#[tactic(auto, using(crate::proofs::Numbers::number_over, crate::proofs::Numbers::number_outside, crate::proofs::Numbers::number_inside, crate::proofs::Numbers::digits_end))]
 pub fn number(line: &[u8], at: usize, k: usize) -> u64
     ensures { result ≡ number_at line.now at k }
 {
     let bytes = line.len() / 2;
-    if 8 < k {
-        return 0;
-    }
-    if bytes < at {
-        return 0;
-    }
-    if bytes - at < k {
+    if 8 < k || bytes < at || bytes - at < k {
         return 0;
     }
     let mut v: u64 = 0;
-    let mut i = 2 * at;
-    let end = i + 2 * k;
-    while i < end {
-        v = 16 * v + digit_bits(line[i]);
-        i += 1;
+    let digits = &line[2 * at..2 * (at + k)];
+    for c in digits {
+        v = 16 * v + digit_bits(*c);
     }
     v
 }
 
 // The digit of a value.
+#[tactic(auto, unfolding(crate::specs::Hex::hex_digit))]
 fn digit(n: u64) -> u8
     requires { n < 16 }
     ensures { result ≡ hex_digit n }
 {
-    if n < 10 { 48 + n as u8 } else { 55 + n as u8 }
+    if n < 10 {
+        b'0' + n as u8
+    } else {
+        b'A' + (n - 10) as u8
+    }
 }
 
 // Writes v as k bytes from place `at` on, the last byte first; nothing if they do not fit.
+#[tactic(auto, using(crate::proofs::Puts::put_inside, crate::proofs::Puts::put_outside, crate::proofs::Puts::length_hex, crate::proofs::Puts::last_digits, crate::proofs::Puts::all_done))]
 pub fn put(buf: &mut [u8], at: usize, k: usize, v: u64)
     ensures { buf.new ≡ put_at buf.old at (hex_of k v) }
 {
-    if buf.len() < at {
-        return;
-    }
-    if (buf.len() - at) / 2 < k {
+    if buf.len() < at || (buf.len() - at) / 2 < k {
         return;
     }
     let mut left = v;
-    let mut i = k;
-    while 0 < i {
-        i -= 1;
+    // The last byte first, two digits each: chunks from the back would be counted from the end of the buffer.
+    for i in (0..k).rev() {
         let place = at + 2 * i;
         buf[place] = digit(left / 16 % 16);
         buf[place + 1] = digit(left % 16);
-        left = left / 256;
+        left /= 256;
     }
 }

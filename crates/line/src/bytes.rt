@@ -2,28 +2,23 @@
 ghost use Rattle.std.specs.Prelude.{◌≡◌};
 ghost use Rattle.sheet.specs.Refusals.{bytes_good};
 
-use calendar::num::lies_within;
-use frames::truth::both;
-use words::digits::wide;
-
 const MOST_BYTES: usize = 256;
 
-const LOWEST: u64 = 32;
+const LOWEST: u8 = b' ';
 
-const HIGHEST: u64 = 126;
+const HIGHEST: u8 = b'~';
 
+#[tactic(auto, unfolding(sheet::specs::Refusals::bytes_good))]
 pub(crate) fn good(line: &[u8]) -> bool
     ensures { result ≡ bytes_good line.now }
 {
     if MOST_BYTES < line.len() {
         return false;
     }
-    let mut i: usize = 0;
     let mut good = true;
     // No way out before the end: so compiled, many bytes are tested at once.
-    while i < line.len() {
-        good = both(lies_within(LOWEST, HIGHEST, wide(line[i])), good);
-        i += 1;
+    for byte in line {
+        good &= (LOWEST..=HIGHEST).contains(byte);
     }
     good
 }

@@ -1,12 +1,13 @@
-// A sheet line with what stands before it: its frame, or the lowest of 2 to 8 that applies.
+// A sheet line with what stands before it: its frame, or the first refusal that applies.
 #![tactic(auto)]
 
-ghost use Rattle.std.specs.Prelude.{◌≡◌, ◌≤◌, length, get_or, drop};
+ghost use Rattle.std.specs.Prelude.{◌≡◌};
 ghost use Rattle.sheet.specs.Form.{tagged};
-ghost use Rattle.line.specs.Lined.{context_as, lined_form, lined};
+ghost use Rattle.line.specs.Lined.{number_of, unruled_as, context_as, lined_form, lined};
 
 use plan::Frame;
-use words::cursor::SPACE;
+use rules::Unruled;
+use words::cursor::{Cursor, SPACE};
 
 mod bytes;
 mod places;
@@ -14,32 +15,8 @@ mod schedules;
 mod times;
 mod zones;
 
-// The refusal numbers of a line.
-pub const BYTES: u64 = 2;
-
-pub const FORM: u64 = 3;
-
-pub const PLACE: u64 = 4;
-
-pub const RANGE: u64 = 5;
-
-pub const PARTS: u64 = 6;
-
-pub const LIMITS: u64 = 7;
-
-pub const START: u64 = 8;
-
-const LETTER_C: u8 = 67;
-
-const LETTER_D: u8 = 68;
-
-const LETTER_R: u8 = 82;
-
-const LETTER_T: u8 = 84;
-
-const LETTER_X: u8 = 88;
-
-const LETTER_Z: u8 = 90;
+// Where a line's text begins, behind its tag and the space.
+const FRONT: Cursor = Cursor { at: 0 };
 
 // What stands before a line: nothing, a Z and so many T, or more.
 #[derive(Clone, Copy)]
@@ -57,40 +34,67 @@ pub struct Context {
     pub offset: u64,
 }
 
-#[derive(Clone, Copy)]
-pub enum Lined {
-    Is(Frame),
-    Refused(u64),
+// The refusals of a line, the first that applies first.
+#[derive(Clone, Copy, PartialEq, Eq, Debug)]
+pub enum Refusal {
+    // Too long, or a byte of no line.
+    Bytes = 2,
+    Form,
+    Place,
+    Range,
+    // Parts that do not go together.
+    Parts,
+    // Of a transition.
+    Limits,
+    // The start is no occurrence of its rule.
+    Start,
 }
 
-// A line by its tag letter.
-fn by_tag(line: &[u8], c: Context) -> Lined
-    requires { 2 ≤ length line.now }
-    ensures { result ≡ lined_form (context_as c) (tagged (get_or line.now 0 0) (drop 2 line.now)) }
+impl Refusal {
+    pub fn number(self) -> u64
+        ensures { result ≡ number_of self }
+    {
+        self as u64
+    }
+}
+
+impl From<Unruled> for Refusal {
+    ghost from_gives = { λ unruled refusal. refusal ≡ unruled_as unruled };
+
+    fn from(unruled: Unruled) -> Refusal {
+        match unruled {
+            Unruled::Apart => Refusal::Parts,
+            Unruled::NoStart => Refusal::Start,
+        }
+    }
+}
+
+// A line by its tag letter and the text behind the space.
+#[tactic(auto, using(crate::proofs::Tagged::other_tag), unfolding(sheet::specs::Form::tagged, crate::specs::Lined::lined_form))]
+fn by_tag(tag: u8, text: &[u8], c: Context) -> Result<Frame, Refusal>
+    ensures { result ≡ lined_form (context_as c) (tagged tag text.now) }
 {
-    match line[0] {
-        LETTER_Z => zones::zone_line(line, c),
-        LETTER_T => zones::change_line(line, c),
-        LETTER_C => schedules::cron_line(line, c),
-        LETTER_R => schedules::rule_line(line, c),
-        LETTER_D => times::time_line(line, c, false),
-        LETTER_X => times::time_line(line, c, true),
-        _ => Lined::Refused(FORM),
+    match tag {
+        b'Z' => zones::zone_line(text, c),
+        b'T' => zones::change_line(text, c),
+        b'C' => schedules::cron_line(text, c),
+        b'R' => schedules::rule_line(text, c),
+        b'D' => times::time_line(text, c, false),
+        b'X' => times::time_line(text, c, true),
+        _ => Err(Refusal::Form),
     }
 }
 
 // A line without its LF.
-pub fn read(line: &[u8], c: Context) -> Lined
+#[tactic(auto, using(crate::proofs::Tagged::bad_bytes, crate::proofs::Tagged::too_short, crate::proofs::Tagged::no_space, crate::proofs::Tagged::by_its_tag))]
+pub fn read(line: &[u8], c: Context) -> Result<Frame, Refusal>
     ensures { result ≡ lined (context_as c) line.now }
 {
     if !bytes::good(line) {
-        return Lined::Refused(BYTES);
+        return Err(Refusal::Bytes);
     }
-    if line.len() < 2 {
-        return Lined::Refused(FORM);
-    }
-    if line[1] != SPACE {
-        return Lined::Refused(FORM);
-    }
-    by_tag(line, c)
+    let [tag, SPACE, text @ ..] = line else {
+        return Err(Refusal::Form);
+    };
+    by_tag(*tag, text, c)
 }

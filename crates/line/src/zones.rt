@@ -1,82 +1,44 @@
 // The lines Z and T.
-ghost use Rattle.std.proofs.Math.Option.{some};
-ghost use Rattle.std.specs.Prelude.{◌≡◌, ◌≤◌, length, drop};
+ghost use Rattle.std.specs.Prelude.{◌≡◌};
 ghost use Rattle.lines.specs.Bytes.{byte};
-ghost use Rattle.sheet.specs.Form.{zone as zone_form, change as change_form, form_by, shift_of, change_of};
+ghost use Rattle.sheet.specs.Form.{zone as zone_form, form_by, shift_of, change_of};
 ghost use Rattle.sheet.specs.Words.{pieces};
-ghost use Rattle.words.specs.Answers.{time_as, shift_as};
 ghost use Rattle.line.specs.Lined.{context_as, lined_form};
 
-use crate::{Context, FORM, LIMITS, Lined, PLACE, RANGE, places};
+use crate::places::{change_stands, standing, zone_stands};
+use crate::times::time_and_space;
+use crate::{Context, FRONT, Refusal};
 use plan::Frame;
-use words::cursor::{Cursor, SPACE, Shift, Shifted, Time, Timed};
-use words::times::{Minute, Offset, local_minute, offset_of};
+use words::times::{local_minute, offset_of};
 use zone::{Transition, limits};
 
 // "Offset before the first transition."
-pub(crate) fn zone_line(line: &[u8], c: Context) -> Lined
-    requires { 2 ≤ length line.now }
-    ensures { result ≡ lined_form (context_as c) (form_by zone_form (shift_of (drop 2 line.now))) }
+#[tactic(auto, using(crate::proofs::Offsets::zone_not, crate::proofs::Offsets::zone_range, crate::proofs::Offsets::zone_taken, crate::proofs::Reading::not_read))]
+pub(crate) fn zone_line(text: &[u8], c: Context) -> Result<Frame, Refusal>
+    ensures { result ≡ lined_form (context_as c) (form_by zone_form (shift_of text.now)) }
 {
-    let here = Cursor { at: 2 };
-    let Shifted::Is(shift, end) = here.shift(line) else {
-        return Lined::Refused(FORM);
-    };
-    if end.at != line.len() {
-        return Lined::Refused(FORM);
-    }
-    let before = c.before;
-    if !places::zone_stands(before) {
-        return Lined::Refused(PLACE);
-    }
-    let Offset::Is(offset) = offset_of(shift) else {
-        return Lined::Refused(RANGE);
-    };
-    Lined::Is(Frame::Offset(offset))
+    let (shift, end) = FRONT.shift(text).ok_or(Refusal::Form)?;
+    standing(text, end, zone_stands(c.before))?;
+    let offset = offset_of(shift).ok_or(Refusal::Range)?;
+    Ok(Frame::Offset(offset))
 }
 
-// A transition of the form: where it may stand, its numbers, then the limits.
-fn change(t: Time, s: Shift, c: Context) -> Lined
-    ensures { result ≡ lined_form (context_as c) (some (change_form (time_as t) (shift_as s))) }
+// "UTC time, space, new offset."
+#[tactic(auto, using(crate::proofs::Changes::minute_small, crate::proofs::Changes::change_no_time, crate::proofs::Changes::change_no_shift, crate::proofs::Changes::change_no_minute, crate::proofs::Changes::change_no_offset, crate::proofs::Changes::change_past_limits, crate::proofs::Changes::change_taken, crate::proofs::Reading::not_read))]
+pub(crate) fn change_line(text: &[u8], c: Context) -> Result<Frame, Refusal>
+    ensures { result ≡ lined_form (context_as c) (change_of (pieces (byte " ") text.now)) }
 {
-    let before = c.before;
-    if !places::change_stands(before) {
-        return Lined::Refused(PLACE);
-    }
-    let Minute::Is(minute) = local_minute(t) else {
-        return Lined::Refused(RANGE);
-    };
-    let Offset::Is(offset) = offset_of(s) else {
-        return Lined::Refused(RANGE);
-    };
+    let (time, after) = time_and_space(text).ok_or(Refusal::Form)?;
+    let (shift, end) = after.shift(text).ok_or(Refusal::Form)?;
+    standing(text, end, change_stands(c.before))?;
+    let minute = local_minute(time).ok_or(Refusal::Range)?;
+    let offset = offset_of(shift).ok_or(Refusal::Range)?;
     let transition = Transition {
         at: minute + zone::BIAS,
         offset,
     };
     if !limits::under_limits(c.low, c.offset, transition) {
-        return Lined::Refused(LIMITS);
+        return Err(Refusal::Limits);
     }
-    Lined::Is(Frame::Change(transition))
-}
-
-// "UTC time, space, new offset."
-pub(crate) fn change_line(line: &[u8], c: Context) -> Lined
-    requires { 2 ≤ length line.now }
-    ensures { result ≡ lined_form (context_as c) (change_of (pieces (byte " ") (drop 2 line.now))) }
-{
-    let here = Cursor { at: 2 };
-    let Timed::Is(time, next) = here.time(line) else {
-        return Lined::Refused(FORM);
-    };
-    if next.byte(line) != SPACE {
-        return Lined::Refused(FORM);
-    }
-    let after = Cursor { at: next.at + 1 };
-    let Shifted::Is(shift, end) = after.shift(line) else {
-        return Lined::Refused(FORM);
-    };
-    if end.at != line.len() {
-        return Lined::Refused(FORM);
-    }
-    change(time, shift, c)
+    Ok(Frame::Change(transition))
 }

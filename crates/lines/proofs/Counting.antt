@@ -1,13 +1,15 @@
 -- Lines counted byte by byte.
-use mathlib.Core.Bool.{Bool, true, false, cond}
+use Rattle.std.specs.Prelude.{Option, Some, None}
+use Rattle.std.specs.List.{count_by, slice_get}
+use Rattle.std.proofs.lemmas.List.Sums.{sum_by-cons}
+use mathlib.Core.Bool.{Bool, true, false, cond, not}
 use mathlib.Core.List.{List, [], ◌∷◌}
 use mathlib.Core.Path.{◌≡◌, refl, ap, ◌∙◌}
-use Prim.Native.Nat.{ℕ, suc, ◌+◌, ◌-◌, ◌<◌, ◌≤◌}
+use Prim.Native.Nat.{ℕ, suc, ◌+◌, ◌-◌}
 use native.Mathlib.Omega.{arith}
 use borrow.Author.Tests.{ne_eqb}
 use lib.Dec.{eqb}
-use lib.ListN.{length, get_or, drop, drop_of_length-le}
-use lib.Seq.{drop-cons}
+use lib.ListN.{length}
 use Rattle.lines.specs.Lines.{before, lines_of, begun_by, lines_in}
 
 -- the lines of what is left, where p says whether a line has begun
@@ -52,24 +54,43 @@ counted_all t =
     counted_begun 0 t
     ∙ ap (λ (k : ℕ). length (lines_of t).whole + k) (no_line_begun (eqb (length (lines_of t).tail) 0) (eqb (length (lines_of t).whole) 0))
 
-pub begun_one : (c : ℕ) → begun_by c ≤ 1
-begun_one c = by_byte (eqb c 10)
-  where
-    by_byte : (b : Bool) → cond b 0 1 ≤ 1
-    by_byte true = omega arith
-    by_byte false = omega arith
+-- the lines are the LFs, and one more where the last byte is none
+abbrev pub begins_line : Option ℕ → Bool
+begins_line None = false
+begins_line (Some c) = not (eqb c 10)
 
--- one byte after the other
-pub counted_byte : (text : List ℕ) (i p : ℕ) → i < length text
-    → counted_from p (drop i text) ≡ 1 - begun_by (get_or text i 0) + counted_from (begun_by (get_or text i 0)) (drop (i + 1) text)
-unfolding counted_from
-counted_byte text i p h =
-    let s : i + 1 ≡ suc i = omega arith in rw (drop-cons text i 0 h, counted_from, s) (by_byte (eqb (get_or text i 0) 10) (drop (suc i) text))
-  where
-    by_byte : (b : Bool) (t : List ℕ) → cond b (suc (counted_from 0 t)) (counted_from 1 t) ≡ 1 - cond b 0 1 + counted_from (cond b 0 1) t
-    by_byte true t = omega arith
-    by_byte false t = omega arith
+-- whether a line has begun and not ended, p before the text
+begun_after : ℕ → List ℕ → ℕ
+begun_after p [] = p
+begun_after p (c ∷ cs) = begun_after (begun_by c) cs
 
-pub counted_none : (text : List ℕ) (i p : ℕ) → length text ≤ i → counted_from p (drop i text) ≡ p
-unfolding counted_from
-counted_none text i p h = rw (drop_of_length-le text h) refl
+abbrev Ends : ℕ → List ℕ → Type 0
+Ends p t = counted_from p t ≡ count_by (λ c. eqb c 10) t + begun_after p t
+
+counted_ends : (p : ℕ) (t : List ℕ) → Ends p t
+unfolding counted_from begun_after
+counted_ends p [] = omega arith
+counted_ends p (c ∷ cs) =
+    let e = sum_by-cons (λ c. cond (eqb c 10) 1 0) c cs in
+    rw e (by_byte (eqb c 10) (counted_ends 0 cs) (counted_ends 1 cs))
+  where
+    by_byte : (b : Bool) → Ends 0 cs → Ends 1 cs
+        → cond b (suc (counted_from 0 cs)) (counted_from 1 cs) ≡ cond b 1 0 + count_by (λ c. eqb c 10) cs + begun_after (cond b 0 1) cs
+    by_byte true none one = omega (arith, none)
+    by_byte false none one = omega (arith, one)
+
+begun_last : (c : ℕ) (cs : List ℕ) → begun_after (begun_by c) cs ≡ cond (begins_line (slice_get (c ∷ cs) (length cs))) 1 0
+unfolding begun_after
+begun_last c [] = by_byte (eqb c 10)
+  where
+    by_byte : (b : Bool) → ◌≡◌ {A = ℕ} (cond b 0 1) (cond (not b) 1 0)
+    by_byte true = refl
+    by_byte false = refl
+begun_last c (d ∷ ds) = begun_last d ds
+
+pub counted : (t : List ℕ) → count_by (λ c. eqb c 10) t + cond (begins_line (slice_get t (length t - 1))) 1 0 ≡ lines_in t
+unfolding begun_after counted_from
+counted [] = counted_all []
+counted (c ∷ cs) =
+    let e : length (c ∷ cs) - 1 ≡ length cs = omega arith in
+    rw e (omega (arith, begun_last c cs, counted_ends 0 (c ∷ cs), counted_all (c ∷ cs)))

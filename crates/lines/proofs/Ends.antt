@@ -1,13 +1,19 @@
 -- Where a line ends, and the lines of what stands from a place on.
-use mathlib.Core.Bool.{false}
+use Rattle.std.specs.Prelude.{Some, None}
+use Rattle.std.specs.List.{position, position_or_len, slice_range}
+use Rattle.std.specs.Option.{unwrap_or}
+use Rattle.std.proofs.lemmas.List.Sums.{position_or_len_is}
+use mathlib.Core.Bool.{false, cond}
+use mathlib.Core.Logic.{dite}
+use native.Mathlib.Decide.{dec_lt}
 use mathlib.Core.List.{List, [], ◌∷◌}
 use mathlib.Core.Path.{◌≡◌, refl, ap, ◌∙◌}
 use Prim.Native.Nat.{ℕ, zero, suc, ◌+◌, ◌-◌, ◌<◌, ◌≤◌}
 use native.Mathlib.Omega.{arith}
-use borrow.Author.Tests.{eq-eqb, ne_eqb, eqb-true}
-use lib.Dec.{eqb}
+use borrow.Author.Tests.{eq-eqb, ne_eqb, eqb-true, lt-ltb, le-ltb}
+use lib.Dec.{eqb, ltb}
 use lib.ListN.{length, get_or, take, drop, length-drop}
-use lib.Seq.{get_or-drop, drop-drop}
+use lib.Seq.{get_or-drop, drop-drop, take_all}
 use Rattle.calendar.proofs.Leasts.{Least, least_from_lem}
 use Rattle.calendar.specs.Below.{least_from}
 use Rattle.lines.specs.Lines.{lines_of, line_end}
@@ -37,6 +43,25 @@ unfolding line_end
 end_least text at h =
     let e : at + (length text - at) ≡ length text = omega arith in
     rw e at (least_from_lem (λ i. eqb (get_or text i 0) 10) (length text - at) at)
+
+-- and what a search from there on finds
+pub end_place : (text : List ℕ) (at : ℕ) (rest : List ℕ) → at ≤ length text → rest ≡ slice_range text at (length text)
+    → at + unwrap_or (position (λ c. eqb c 10) rest) (length rest) ≡ line_end text at
+end_place text at rest h r =
+    let a = end_least text at h in
+    let k : ℕ = line_end text at - at in
+    let e : at + k ≡ line_end text at = omega (arith, a.from) in
+    let n : position_or_len (λ c. eqb c 10) (drop at text) ≡ k =
+    position_or_len_is (λ c. eqb c 10) (drop at text) k 0 (omega (arith, length-drop at text, a.to))
+    (λ i l. ap (λ (c : ℕ). eqb c 10) (get_or-drop at text i 0) ∙ a.fails (at + i) (omega arith) (omega (arith, e)))
+    (λ l. ap (λ (c : ℕ). eqb c 10) (get_or-drop at text _ 0 ∙ ap (λ (i : ℕ). get_or text i 0) e) ∙ a.passes (omega (arith, length-drop at text, e))) in
+    rw (r ∙ take_all (length text - at) (drop at text) (omega (arith, length-drop at text)), n)
+    (either k (length (drop at text)) (omega (arith, length-drop at text, a.to)) e)
+  where
+    either : (k len : ℕ) → k ≤ len → at + k ≡ line_end text at → at + unwrap_or (cond (ltb k len) (Some k) None) len ≡ line_end text at
+    either k len l e =
+        dite (dec_lt k len) (λ (b : k < len). rw (lt-ltb k len b) e)
+        (λ (b : k < len → ⊥). rw (le-ltb k len (omega arith)) (omega (arith, e)))
 
 -- the first line of a text that has one, and a text that has none
 first_line : (t : List ℕ) (k : ℕ) → k < length t → get_or t k 0 ≡ 10 → ((j : ℕ) → j < k → eqb (get_or t j 0) 10 ≡ false)

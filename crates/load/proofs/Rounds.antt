@@ -1,7 +1,7 @@
 -- The loop over a plan's lines: what is left to do makes what was to do at first.
+use Rattle.std.specs.Prelude.{Option, None, Some, Result, Ok}
 use mathlib.Core.Bool.{Bool, true, false, cond, ◌&&◌}
 use mathlib.Core.List.{List, [], ◌∷◌, map}
-use mathlib.Core.Option.{Option, none, some}
 use mathlib.Core.Path.{◌≡◌, refl, sym, ap, ◌∙◌}
 use Prim.Native.Nat.{ℕ, zero, suc, ◌+◌, ◌-◌, ◌<◌, ◌≤◌}
 use native.Mathlib.Omega.{arith}
@@ -13,15 +13,15 @@ use Rattle.lines.proofs.Ends.{lines_at, lines_none}
 use Rattle.lines.specs.Lines.{Lines, before, lines_of, line_end}
 use Rattle.plan.proofs.Loading.{on_rest, on_end, on_allowed, line_allowed, among}
 use Rattle.plan.specs.Rows.{row_of}
-use Rattle.plan.specs.Taken.{Before, start, is_end, allowed, Loaded as Load, taken, refused, load_from, load}
+use Rattle.plan.specs.Taken.{Before, start, is_end, allowed, Loaded, taken, refused, load_from, load}
 use Rattle.plan.specs.declared.Frame.{Frame}
-use Rattle.load.specs.Loads.{ended_as, loaded_as, read_from, read_frames}
-use Rattle.load.specs.declared.Loaded.{Loaded}
+use Rattle.load.specs.Loads.{not_taken, ended_as, loaded_as, read_from, read_frames}
+use Rattle.load.specs.declared.NotTaken.{NotTaken}
 
 -- the answer of what is left after n frames
-abbrev pub loaded_from : ℕ → Load → Loaded
-loaded_from n (taken fs) = Loaded.Taken (n + length fs)
-loaded_from n (refused k) = Loaded.Refused k
+abbrev pub loaded_from : ℕ → Loaded → Result ℕ NotTaken
+loaded_from n (taken fs) = Ok (n + length fs)
+loaded_from n (refused k) = not_taken k
 
 pub record Left (text : List ℕ) (rows₀ rows : List (List ℕ)) (n at : ℕ) (b : Before) : Type 0 where
   pub within : at ≤ length text
@@ -29,8 +29,8 @@ pub record Left (text : List ℕ) (rows₀ rows : List (List ℕ)) (n at : ℕ) 
   pub answer : loaded_from n (load_from n b (lines_of (drop at text)).whole (lines_of (drop at text)).tail) ≡ loaded_as (load text)
   pub stored : sets rows n (map row_of (read_from n b (lines_of (drop at text)).whole)) ≡ sets rows₀ 0 (map row_of (read_frames text))
 
-whole_answer : (l : Load) → loaded_from 0 l ≡ loaded_as l
-whole_answer (taken fs) = let e : 0 + length fs ≡ length fs = omega arith in ap Loaded.Taken e
+whole_answer : (l : Loaded) → loaded_from 0 l ≡ loaded_as l
+whole_answer (taken fs) = let e : 0 + length fs ≡ length fs = omega arith in ap Ok e
 whole_answer (refused k) = refl
 
 pub left_first : (text : List ℕ) (rows : List (List ℕ)) → Left text rows rows 0 0 start
@@ -43,7 +43,7 @@ abbrev pub on_read_end : ℕ → Frame × Before → List (List ℕ) → Bool �
 on_read_end n r more t = elim t [ true ↦ [] | false ↦ r.0 ∷ read_from (n + 1) r.1 more ]
 
 abbrev pub on_read : ℕ → List (List ℕ) → Option (Frame × Before) → List Frame
-on_read n more o = elim o [ none ↦ [] | some r ↦ on_read_end n r more (is_end r.0) ]
+on_read n more o = elim o [ None ↦ [] | Some r ↦ on_read_end n r more (is_end r.0) ]
 
 -- nothing stands after a text's end, and something after any other place
 rest_none : (t : List ℕ) → length t ≡ 0 → (eqb (length (lines_of t).whole) 0 && eqb (length (lines_of t).tail) 0) ≡ true
@@ -67,14 +67,14 @@ rest_some (c ∷ cs) h = by_byte (eqb c 10) refl
         (rw (ne_eqb (suc (length (lines_of cs).whole)) 0 (λ (z : suc (length (lines_of cs).whole) ≡ 0). omega (arith, z))) refl)
     by_byte false e = rw (lines_of, e) (some_byte (lines_of cs).whole (lines_of cs).tail)
 
-more_frames : (n : ℕ) (f : Frame) (l : Load) → loaded_from (n + 1) l ≡ loaded_from n (on_rest f l)
-more_frames n f (taken fs) = let e : n + 1 + length fs ≡ n + suc (length fs) = omega arith in ap Loaded.Taken e
+more_frames : (n : ℕ) (f : Frame) (l : Loaded) → loaded_from (n + 1) l ≡ loaded_from n (on_rest f l)
+more_frames n f (taken fs) = let e : n + 1 + length fs ≡ n + suc (length fs) = omega arith in ap Ok e
 more_frames n f (refused k) = refl
 
 module _ (text : List ℕ) (rows₀ rows : List (List ℕ)) (n at : ℕ) (b : Before) (left : Left text rows₀ rows n at b) where
   -- no line is left
   pub left_none : length text ≤ line_end text at
-      → (Loaded.Refused (n + 1) ≡ loaded_as (load text)) × (rows ≡ sets rows₀ 0 (map row_of (read_frames text)))
+      → (not_taken (n + 1) ≡ loaded_as (load text)) × (rows ≡ sets rows₀ 0 (map row_of (read_frames text)))
   unfolding load_from read_from
   left_none h =
       let e = lines_none text at left.within h in (
@@ -102,11 +102,11 @@ module _ (text : List ℕ) (rows₀ rows : List (List ℕ)) (n at : ℕ) (b : Be
         ∙ ap (λ (ls : Lines). sets rows n (map row_of (read_from n b ls.whole))) (sym (lines_at text at left.within h))
         ∙ left.stored
 
-    pub left_not : none ≡ allowed n b (take (line_end text at - at) (drop at text))
-        → (Loaded.Refused (n + 1) ≡ loaded_as (load text)) × (rows ≡ sets rows₀ 0 (map row_of (read_frames text)))
-    left_not e = (answered none e, read none e)
+    pub left_not : None ≡ allowed n b (take (line_end text at - at) (drop at text))
+        → (not_taken (n + 1) ≡ loaded_as (load text)) × (rows ≡ sets rows₀ 0 (map row_of (read_frames text)))
+    left_not e = (answered None e, read None e)
 
-    module _ (f : Frame) (after : Before) (e : some (f, after) ≡ allowed n b (take (line_end text at - at) (drop at text))) where
+    module _ (f : Frame) (after : Before) (e : Some (f, after) ≡ allowed n b (take (line_end text at - at) (drop at text))) where
       pub left_end : is_end f ≡ true
           → (ended_as n (length text - (line_end text at + 1)) ≡ loaded_as (load text)) × (rows ≡ sets rows₀ 0 (map row_of (read_frames text)))
       left_end t = (
@@ -114,15 +114,15 @@ module _ (text : List ℕ) (rows₀ rows : List (List ℕ)) (n at : ℕ) (b : Be
             ∙ ap
             (λ (x : Bool). loaded_from n (on_end n (f, after) (lines_of (drop (line_end text at + 1) text)).whole (lines_of (drop (line_end text at + 1) text)).tail x))
             (sym t)
-            ∙ answered (some (f, after)) e,
-        ap (λ (x : Bool). sets rows n (map row_of (on_read_end n (f, after) (lines_of (drop (line_end text at + 1) text)).whole x))) (sym t) ∙ read (some (f, after)) e,
+            ∙ answered (Some (f, after)) e,
+        ap (λ (x : Bool). sets rows n (map row_of (on_read_end n (f, after) (lines_of (drop (line_end text at + 1) text)).whole x))) (sym t) ∙ read (Some (f, after)) e,
       )
         where
           by_rest : (k : ℕ) → length text - (line_end text at + 1) ≡ k
               → ended_as n k ≡ loaded_from n (cond (eqb (length (lines_of (drop (line_end text at + 1) text)).whole) 0 && eqb (length (lines_of (drop (line_end text at + 1) text)).tail) 0) (taken []) (refused (n + 2)))
           by_rest zero k =
               let z : n ≡ n + 0 = omega arith in
-              rw (rest_none (drop (line_end text at + 1) text) (length-drop (line_end text at + 1) text ∙ k)) (ap Loaded.Taken z)
+              rw (rest_none (drop (line_end text at + 1) text) (length-drop (line_end text at + 1) text ∙ k)) (ap Ok z)
           by_rest (suc j) k =
               rw (rest_some (drop (line_end text at + 1) text) (omega (arith, length-drop (line_end text at + 1) text, k))) refl
 
@@ -141,12 +141,12 @@ module _ (text : List ℕ) (rows₀ rows : List (List ℕ)) (n at : ℕ) (b : Be
                 ∙ ap
                 (λ (x : Bool). loaded_from n (on_end n (f, after) (lines_of (drop (line_end text at + 1) text)).whole (lines_of (drop (line_end text at + 1) text)).tail x))
                 (sym t)
-                ∙ answered (some (f, after)) e;
+                ∙ answered (Some (f, after)) e;
             stored =
                 ap
                 (λ (k : ℕ). sets (set rows n (row_of f)) k (map row_of (read_from (n + 1) after (lines_of (drop (line_end text at + 1) text)).whole)))
                 s
                 ∙ ap (λ (x : Bool). sets rows n (map row_of (on_read_end n (f, after) (lines_of (drop (line_end text at + 1) text)).whole x)))
                 (sym t)
-                ∙ read (some (f, after)) e;
+                ∙ read (Some (f, after)) e;
           }

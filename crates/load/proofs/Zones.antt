@@ -1,16 +1,14 @@
 -- The zone of a taken plan: what its rows hold is what its frames 01 and 02 write, and it keeps the limits.
+use Rattle.std.specs.Prelude.{Option, None, Some}
 use mathlib.Core.Bool.{Bool, true, false, cond, not, ◌&&◌, false≢true}
 use mathlib.Core.List.{List, [], ◌∷◌, map}
-use mathlib.Core.Logic.{dite}
-use mathlib.Core.Option.{Option, none, some}
 use mathlib.Core.Path.{◌≡◌, refl, sym, ap, ◌∙◌}
-use Prim.Native.Nat.{ℕ, suc, ◌+◌, ◌-◌, ◌<◌, ◌≤◌, min}
-use native.Mathlib.Decide.{dec_lt}
+use Prim.Native.Nat.{ℕ, suc, ◌+◌, ◌≤◌}
 use native.Mathlib.Omega.{arith}
 use borrow.Author.Tests.{le-leb, ltb-true}
 use lib.Dec.{eqb, ltb}
-use lib.ListN.{length, get_or, take, drop, length-take}
-use lib.Seq.{take_all, take-nil, take-take, get_or-take}
+use lib.ListN.{length, take}
+use lib.Seq.{take_all}
 use Rattle.calendar.proofs.Every.{both_true}
 use Rattle.calendar.specs.Below.{within}
 use Rattle.lines.specs.Lines.{lines_of}
@@ -31,7 +29,7 @@ use Rattle.load.proofs.ZoneRows.{changes_taken, held_changes}
 -- ---- the frames of a plan that is taken
 pub record First (n : ℕ) (b : Before) (f : Frame) (fs : List Frame) : Type 0 where
   pub after : Before
-  pub placed : place b f ≡ some after
+  pub placed : place b f ≡ Some after
   pub more : is_end f ≡ false
   pub good : frame_good f ≡ true
   pub number : number_good n f ≡ true
@@ -46,8 +44,8 @@ unfolding allowed_from
 first_of n b f fs e = by_place (place b f) refl
   where
     by_place : (o : Option Before) → place b f ≡ o → First n b f fs
-    by_place none p = absurd (false≢true (rw (allowed_from, p) at e))
-    by_place (some after) p =
+    by_place None p = absurd (false≢true (rw (allowed_from, p) at e))
+    by_place (Some after) p =
         let h : (not (is_end f) && (frame_good f && (number_good n f && allowed_from (n + 1) after fs))) ≡ true = rw (allowed_from, p) at e in
         let g = (both_true (not (is_end f)) _ h).1 in
         let m = (both_true (frame_good f) _ g).1 in
@@ -60,19 +58,19 @@ first_of n b f fs e = by_place (place b f) refl
           rest = (both_true (number_good n f) _ m).1;
         }
 
-no_place : {A : Type 0} (b : Before) → none ≡ some b → A
+no_place : {A : Type 0} (b : Before) → None ≡ Some b → A
 no_place b e = absurd (false≢true (ap is_some e))
   where
     is_some : Option Before → Bool
-    is_some none = false
-    is_some (some x) = true
+    is_some None = false
+    is_some (Some x) = true
 
-the_same : (a b : Before) → some a ≡ some b → a ≡ b
+the_same : (a b : Before) → Some a ≡ Some b → a ≡ b
 the_same a b e = ap inside e
   where
     inside : Option Before → Before
-    inside none = a
-    inside (some x) = x
+    inside None = a
+    inside (Some x) = x
 
 -- at most 64 of them
 pub few_frames : (n : ℕ) (b : Before) (fs : List Frame) → n ≤ 64 → allowed_from n b fs ≡ true → n + length fs ≤ 64
@@ -122,7 +120,7 @@ one_more_lem k low offset t fs l u g r =
     }
 
 by_limits : (k low offset : ℕ) (t : Transition) (after : Before) (b : Bool) → (ltb k 32 && under_limits low offset t) ≡ b
-    → cond b (some (zoned (suc k) (t.at + 2880) t.offset)) none ≡ some after → (b ≡ true) × (after ≡ zoned (suc k) (t.at + 2880) t.offset)
+    → cond b (Some (zoned (suc k) (t.at + 2880) t.offset)) None ≡ Some after → (b ≡ true) × (after ≡ zoned (suc k) (t.at + 2880) t.offset)
 by_limits k low offset t after true e p = (refl, the_same after _ (sym p))
 by_limits k low offset t after false e p = no_place after p
 
@@ -157,54 +155,36 @@ pub taken_few : (text : List ℕ) (fs : List Frame) → load text ≡ taken fs �
 unfolding frames_allowed
 taken_few text fs e = omega (arith, few_frames 0 start fs (omega arith) (taken_allowed text fs e))
 
-rows_after : (m : ℕ) (rows : List (List ℕ)) → take m (drop 1 rows) ≡ drop 1 (take (suc m) rows)
-rows_after m [] = take-nil m
-rows_after m (row ∷ rows) = refl
-
-at_most_32 : (m : ℕ) (rows : List (List ℕ)) → take (min (suc m) 33 - 1) rows ≡ take 32 (take m rows)
-at_most_32 m rows =
-    dite (dec_lt 32 m)
-    (λ (g : 32 < m).
-    let e : min (suc m) 33 - 1 ≡ 32 = omega arith in
-    ap (λ (k : ℕ). take k rows) e ∙ sym (take-take 32 m rows (omega arith)))
-    (λ (g : 32 < m → ⊥).
-    let e : min (suc m) 33 - 1 ≡ m = omega arith in
-    ap (λ (k : ℕ). take k rows) e ∙ sym (take_all 32 (take m rows) (omega (arith, length-take m rows))))
-
-zone_first : (o : ℕ) (fs : List Frame) (rows : List (List ℕ)) → offset_in_range o ≡ true → allowed_from 1 (zoned 0 0 o) fs ≡ true
-    → take (suc (length fs)) rows ≡ row_of (Frame.Offset o) ∷ map row_of fs
-    → (offsets_of (zone_of rows (suc (length fs))) ≡ plan_zone (Frame.Offset o ∷ fs)) × (zone_good (plan_zone (Frame.Offset o ∷ fs)) ≡ true)
+zone_first : (o : ℕ) (fs : List Frame) → offset_in_range o ≡ true → allowed_from 1 (zoned 0 0 o) fs ≡ true
+    → (offsets_of (zone_of (map row_of (Frame.Offset o ∷ fs))) ≡ plan_zone (Frame.Offset o ∷ fs)) × (zone_good (plan_zone (Frame.Offset o ∷ fs)) ≡ true)
 unfolding zone_of plan_zone offset_of changes_of zone_good row_of
-zone_first o fs rows g p r =
+zone_first o fs g p =
     let c = changes_read 1 0 0 o fs (omega arith) p in
     let h : length (changes_of fs) ≤ 32 = omega (arith, c.few) in
-    let f : get_or (get_or rows 0 []) 1 0 ≡ o =
-    ap (λ (row : List ℕ). get_or row 1 0) (sym (get_or-take (suc (length fs)) rows 0 [] (omega arith)) ∙ ap (λ (l : List (List ℕ)). get_or l 0 []) r) in
-    let t : changes_in (take (min (suc (length fs)) 33 - 1) (drop 1 rows)) ≡ changes_of fs =
-    ap changes_in (at_most_32 (length fs) (drop 1 rows) ∙ ap (take 32) (rows_after (length fs) rows ∙ ap (drop 1) r))
-    ∙ changes_taken 32 (map row_of fs) ∙ ap (take 32) c.same ∙ take_all 32 (changes_of fs) h in (
-      (λ i. offsets_of (with_changes (bare (f i)) (t i))) ∙ held_changes o (changes_of fs) h,
+    let t : changes_in (take 32 (map row_of fs)) ≡ changes_of fs =
+    changes_taken 32 (map row_of fs) ∙ ap (take 32) c.same ∙ take_all 32 (changes_of fs) h in (
+      ap (λ (ts : List Transition). offsets_of (with_changes (bare o) ts)) t ∙ held_changes o (changes_of fs) h,
       rw (g, le-leb (length (changes_of fs)) 32 h, c.good) refl,
     )
 
-zone_read : (fs : List Frame) (rows : List (List ℕ)) → allowed_from 0 start fs ≡ true → take (length fs) rows ≡ map row_of fs
-    → (offsets_of (zone_of rows (length fs)) ≡ plan_zone fs) × (zone_good (plan_zone fs) ≡ true)
+zone_read : (fs : List Frame) → allowed_from 0 start fs ≡ true
+    → (offsets_of (zone_of (map row_of fs)) ≡ plan_zone fs) × (zone_good (plan_zone fs) ≡ true)
 unfolding place allowed_from frame_good
-zone_read [] rows e r = absurd (false≢true e)
-zone_read (Frame.Offset o ∷ fs) rows e r =
+zone_read [] e = absurd (false≢true e)
+zone_read (Frame.Offset o ∷ fs) e =
     let p = first_of 0 start (Frame.Offset o) fs e in
-    zone_first o fs rows p.good (rw (the_same p.after (zoned 0 0 o) (sym p.placed)) at p.rest) r
-zone_read (Frame.Change t ∷ fs) rows e r = let p = first_of 0 start (Frame.Change t) fs e in no_place p.after p.placed
-zone_read (Frame.Cron f ∷ fs) rows e r = let p = first_of 0 start (Frame.Cron f) fs e in no_place p.after p.placed
-zone_read (Frame.Rule f ∷ fs) rows e r = let p = first_of 0 start (Frame.Rule f) fs e in no_place p.after p.placed
-zone_read (Frame.Extra m ∷ fs) rows e r = let p = first_of 0 start (Frame.Extra m) fs e in no_place p.after p.placed
-zone_read (Frame.Excepted m ∷ fs) rows e r = let p = first_of 0 start (Frame.Excepted m) fs e in no_place p.after p.placed
-zone_read (Frame.End n ∷ fs) rows e r = let p = first_of 0 start (Frame.End n) fs e in no_place p.after p.placed
+    zone_first o fs p.good (rw (the_same p.after (zoned 0 0 o) (sym p.placed)) at p.rest)
+zone_read (Frame.Change t ∷ fs) e = let p = first_of 0 start (Frame.Change t) fs e in no_place p.after p.placed
+zone_read (Frame.Cron f ∷ fs) e = let p = first_of 0 start (Frame.Cron f) fs e in no_place p.after p.placed
+zone_read (Frame.Rule f ∷ fs) e = let p = first_of 0 start (Frame.Rule f) fs e in no_place p.after p.placed
+zone_read (Frame.Extra m ∷ fs) e = let p = first_of 0 start (Frame.Extra m) fs e in no_place p.after p.placed
+zone_read (Frame.Excepted m ∷ fs) e = let p = first_of 0 start (Frame.Excepted m) fs e in no_place p.after p.placed
+zone_read (Frame.End n ∷ fs) e = let p = first_of 0 start (Frame.End n) fs e in no_place p.after p.placed
 
-pub taken_zone : (text : List ℕ) (fs : List Frame) → load text ≡ taken fs → (rows : List (List ℕ)) → take (length fs) rows ≡ map row_of fs
-    → (offsets_of (zone_of rows (length fs)) ≡ plan_zone fs) × (zone_good (plan_zone fs) ≡ true)
+pub taken_zone : (text : List ℕ) (fs : List Frame) → load text ≡ taken fs
+    → (offsets_of (zone_of (map row_of fs)) ≡ plan_zone fs) × (zone_good (plan_zone fs) ≡ true)
 unfolding frames_allowed
-taken_zone text fs e rows r = zone_read fs rows (taken_allowed text fs e) r
+taken_zone text fs e = zone_read fs (taken_allowed text fs e)
 
 -- the frames that are read of it are its frames
 frames_in_lem : (gs fs : List Frame) → taken gs ≡ taken fs → gs ≡ fs
@@ -226,8 +206,8 @@ module _ (n : ℕ) (ls : List (List ℕ)) (tail : List ℕ) (fs : List Frame) wh
 
   line_read_lem : ((b : Before) (gs : List Frame) → load_from (n + 1) b ls tail ≡ taken gs → read_from (n + 1) b ls ≡ gs)
       → (o : Option (Frame × Before)) → on_allowed n ls tail o ≡ taken fs → on_read n ls o ≡ fs
-  line_read_lem again none e = no_plan (n + 1) fs e
-  line_read_lem again (some r) e = by_end (is_end r.0) e
+  line_read_lem again None e = no_plan (n + 1) fs e
+  line_read_lem again (Some r) e = by_end (is_end r.0) e
     where
       by_end : (t : Bool) → on_end n r ls tail t ≡ taken fs → on_read_end n r ls t ≡ fs
       by_end true e = end_read (eqb (length ls) 0 && eqb (length tail) 0) e

@@ -1,75 +1,39 @@
 // One line of a plan where it stands.
-ghost use Rattle.std.specs.Prelude.{true, false, ◌≡◌, ◌<◌};
+ghost use Rattle.std.specs.Prelude.{◌≡◌};
 ghost use Rattle.plan.specs.Taken.{number_good, is_end, allowed as allowed_at};
 ghost use Rattle.load.specs.Loads.{before_of, allowed_of};
 
 use crate::place;
-use crate::place::{Before, Placed};
+use crate::place::Before;
 use frames::places::FRAMES;
-use plan::text::Line;
 use plan::{Frame, text};
 
-// A frame, and what then stands before the next line.
-#[derive(Clone, Copy)]
-pub(crate) struct Step {
-    pub frame: Frame,
-    pub before: Before,
-}
-
-// A line that is allowed, or not.
-#[derive(Clone, Copy)]
-pub(crate) enum Allowed {
-    Is(Step),
-    Not,
-}
-
 // At most 64 frames before the end frame, whose number is right.
+#[tactic(auto, unfolding(plan::specs::Taken::number_good))]
 fn number_good(n: usize, frame: Frame) -> bool
     ensures { result ≡ number_good n frame }
 {
     match frame {
-        Frame::Offset(_) => n < FRAMES,
-        Frame::Change(_) => n < FRAMES,
-        Frame::Cron(_) => n < FRAMES,
-        Frame::Rule(_) => n < FRAMES,
-        Frame::Extra(_) => n < FRAMES,
-        Frame::Excepted(_) => n < FRAMES,
         Frame::End(k) => k == n as u64,
+        _ => n < FRAMES,
     }
 }
 
 pub(crate) fn is_end(frame: Frame) -> bool
     ensures { result ≡ is_end frame }
 {
-    match frame {
-        Frame::Offset(_) => false,
-        Frame::Change(_) => false,
-        Frame::Cron(_) => false,
-        Frame::Rule(_) => false,
-        Frame::Extra(_) => false,
-        Frame::Excepted(_) => false,
-        Frame::End(_) => true,
-    }
+    matches!(frame, Frame::End(_))
 }
 
-// A line after n frames.
-pub(crate) fn allow(n: usize, before: Before, line: &[u8]) -> Allowed
+// The frame of a line after n frames, and what then stands before the next line; none where it is not allowed.
+#[tactic(auto, using(crate::proofs::Places::allowed_unread, crate::proofs::Places::allowed_bad, crate::proofs::Places::allowed_not_placed, crate::proofs::Places::allowed_placed))]
+pub(crate) fn allow(n: usize, before: Before, line: &[u8]) -> Option<(Frame, Before)>
     ensures { allowed_of result ≡ allowed_at n (before_of before) line.now }
 {
-    let Line::Is(frame) = text::read(line) else {
-        return Allowed::Not;
-    };
-    if !good::frame_good(frame) {
-        return Allowed::Not;
+    let frame = text::read(line)?;
+    if !good::frame_good(frame) || !number_good(n, frame) {
+        return None;
     }
-    if !number_good(n, frame) {
-        return Allowed::Not;
-    }
-    let Placed::Is(after) = place::place(before, frame) else {
-        return Allowed::Not;
-    };
-    Allowed::Is(Step {
-        frame,
-        before: after,
-    })
+    let after = place::place(before, frame)?;
+    Some((frame, after))
 }

@@ -2,36 +2,34 @@
 ghost use Rattle.std.specs.Prelude.{◌≡◌};
 ghost use Rattle.load.specs.Zones.{zone_of};
 
-use calendar::num::fewer;
-use frames::places::Rows;
+use frames::places::Row;
 use frames::{kinds, places};
 use zone::{CHANGES, Transition, Zone};
 
-// The rows that can hold a zone: its first offset, and the transitions.
-const ZONE_ROWS: usize = CHANGES + 1;
-
 // The zone that the first rows hold: the first one's offset, and the transitions right after it.
-pub fn zone_of(rows: &Rows, count: usize) -> Zone
-    ensures { result ≡ zone_of rows.now count }
+#[tactic(auto, using(crate::proofs::ZoneRows::rest_first, crate::proofs::ZoneRows::rest_stops, crate::proofs::ZoneRows::rest_on, crate::proofs::ZoneRows::rest_none))]
+pub fn zone_of(frames: &[Row]) -> Zone
+    ensures { result ≡ zone_of frames.now }
 {
-    let n = fewer(count, ZONE_ROWS);
     let mut zone = Zone {
-        first: rows[0][places::OFFSET],
+        first: 0,
         count: 0,
         changes: [Transition { at: 0, offset: 0 }; CHANGES],
     };
-    let mut i: usize = 1;
-    while i < n {
-        if rows[i][places::KIND] != kinds::CHANGE {
+    let Some((first, rest)) = frames.split_first() else {
+        return zone;
+    };
+    zone.first = first[places::OFFSET];
+    let rows = &rest[..rest.len().min(CHANGES)];
+    for (k, row) in rows.iter().enumerate() {
+        if row[places::KIND] != kinds::CHANGE {
             return zone;
         }
-        let k = i - 1;
         zone.changes[k] = Transition {
-            at: rows[i][places::AT],
-            offset: rows[i][places::NEW_OFFSET],
+            at: row[places::AT],
+            offset: row[places::NEW_OFFSET],
         };
-        zone.count = i;
-        i += 1;
+        zone.count = k + 1;
     }
     zone
 }

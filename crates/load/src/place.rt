@@ -1,7 +1,7 @@
 // Where a frame may stand: 01 first, then up to 32 of 02 under the zone limits, then others.
 ghost use Rattle.std.specs.Prelude.{true, ◌≡◌, ◌+◌, ◌≤◌};
 ghost use Rattle.calendar.specs.Window.{window_last};
-ghost use Rattle.plan.specs.Taken.{start, zoned as zoned_at, lines as lines_at, frame_good, place as place_of};
+ghost use Rattle.plan.specs.Taken.{zoned as zoned_at, frame_good, place as place_of};
 ghost use Rattle.plan.specs.declared.Frame.{Frame};
 ghost use Rattle.zone.specs.Zone.{bias};
 ghost use Rattle.load.specs.Loads.{before_of, placed_of};
@@ -25,87 +25,36 @@ pub(crate) enum Before {
     Lines,
 }
 
-// What stands before the next line, or that the frame may not stand here.
-#[derive(Clone, Copy)]
-pub(crate) enum Placed {
-    Is(Before),
-    Not,
-}
-
-fn first(frame: Frame) -> Placed
-    ensures { placed_of result ≡ place_of start frame }
-{
-    match frame {
-        Frame::Offset(o) => Placed::Is(Before::Zoned(Edge {
-            changes: 0,
-            low: 0,
-            offset: o,
-        })),
-        Frame::Change(_) => Placed::Not,
-        Frame::Cron(_) => Placed::Not,
-        Frame::Rule(_) => Placed::Not,
-        Frame::Extra(_) => Placed::Not,
-        Frame::Excepted(_) => Placed::Not,
-        Frame::End(_) => Placed::Not,
-    }
-}
-
 // One transition more.
-fn change(edge: Edge, t: Transition) -> Placed
+#[tactic(auto, using(crate::proofs::Places::change_past, crate::proofs::Places::change_broken, crate::proofs::Places::change_good))]
+fn change(edge: Edge, t: Transition) -> Option<Before>
     requires { t.at ≤ bias + window_last }
     ensures { placed_of result ≡ place_of (zoned_at edge.changes edge.low edge.offset) (Frame.Change t) }
 {
-    if CHANGES <= edge.changes {
-        return Placed::Not;
+    if CHANGES <= edge.changes || !limits::under_limits(edge.low, edge.offset, t) {
+        return None;
     }
-    if !limits::under_limits(edge.low, edge.offset, t) {
-        return Placed::Not;
-    }
-    Placed::Is(Before::Zoned(Edge {
+    Some(Before::Zoned(Edge {
         changes: edge.changes + 1,
         low: t.at + limits::DISTANCE,
         offset: t.offset,
     }))
 }
 
-// After a zone.
-fn zoned(edge: Edge, frame: Frame) -> Placed
-    requires { frame_good frame ≡ true }
-    ensures { placed_of result ≡ place_of (zoned_at edge.changes edge.low edge.offset) frame }
-{
-    match frame {
-        Frame::Offset(_) => Placed::Not,
-        Frame::Change(t) => change(edge, t),
-        Frame::Cron(_) => Placed::Is(Before::Lines),
-        Frame::Rule(_) => Placed::Is(Before::Lines),
-        Frame::Extra(_) => Placed::Is(Before::Lines),
-        Frame::Excepted(_) => Placed::Is(Before::Lines),
-        Frame::End(_) => Placed::Is(Before::Lines),
-    }
-}
-
-// After other lines.
-fn after(frame: Frame) -> Placed
-    ensures { placed_of result ≡ place_of lines_at frame }
-{
-    match frame {
-        Frame::Offset(_) => Placed::Not,
-        Frame::Change(_) => Placed::Not,
-        Frame::Cron(_) => Placed::Is(Before::Lines),
-        Frame::Rule(_) => Placed::Is(Before::Lines),
-        Frame::Extra(_) => Placed::Is(Before::Lines),
-        Frame::Excepted(_) => Placed::Is(Before::Lines),
-        Frame::End(_) => Placed::Is(Before::Lines),
-    }
-}
-
-pub(crate) fn place(standing: Before, frame: Frame) -> Placed
+// What stands before the next line, or none where the frame may not stand here.
+#[tactic(auto, unfolding(plan::specs::Taken::place, plan::specs::Taken::frame_good))]
+pub(crate) fn place(standing: Before, frame: Frame) -> Option<Before>
     requires { frame_good frame ≡ true }
     ensures { placed_of result ≡ place_of (before_of standing) frame }
 {
-    match standing {
-        Before::Start => first(frame),
-        Before::Zoned(edge) => zoned(edge, frame),
-        Before::Lines => after(frame),
+    match (standing, frame) {
+        (Before::Start, Frame::Offset(offset)) => Some(Before::Zoned(Edge {
+            changes: 0,
+            low: 0,
+            offset,
+        })),
+        (Before::Zoned(edge), Frame::Change(t)) => change(edge, t),
+        (Before::Start, _) | (_, Frame::Offset(_) | Frame::Change(_)) => None,
+        _ => Some(Before::Lines),
     }
 }

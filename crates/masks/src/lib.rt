@@ -1,4 +1,4 @@
-// Bits of a mask: bit n stands for n.
+// Bits of a mask: bit n stands for n. A mask is a number and no type, stored as one in rows and in lines of a plan; 64 and 0 for none are ends of the range, by which callers go on.
 #![tactic(auto)]
 
 ghost use Rattle.std.specs.Prelude.{◌≡◌};
@@ -10,10 +10,7 @@ pub mod time;
 pub fn test(mask: u64, n: u64) -> bool
     ensures { result ≡ bit mask n }
 {
-    if 63 < n {
-        return false;
-    }
-    (mask >> n) % 2 == 1
+    n < 64 && (mask >> n) % 2 == 1
 }
 
 // The mask with bit n set; past bit 63 as it was.
@@ -33,7 +30,7 @@ pub fn next_bit(mask: u64, n: u64) -> u64
     if 63 < n {
         return 64;
     }
-    u64::trailing_zeros((mask >> n) << n) as u64
+    u64::from(((mask >> n) << n).trailing_zeros())
 }
 
 // One more than the greatest set bit below n; 0 where there is none.
@@ -41,9 +38,9 @@ pub fn previous_bit(mask: u64, n: u64) -> u64
     ensures { result ≡ previous_bit mask n }
 {
     if 63 < n {
-        return 64 - u64::leading_zeros(mask) as u64;
+        return 64 - u64::from(mask.leading_zeros());
     }
-    64 - u64::leading_zeros(mask % (1 << n)) as u64
+    64 - u64::from((mask % (1 << n)).leading_zeros())
 }
 
 // How many bits at or above n are set.
@@ -53,5 +50,5 @@ pub fn count_from(mask: u64, n: u64) -> u64
     if 63 < n {
         return 0;
     }
-    u64::count_ones(mask >> n) as u64
+    u64::from((mask >> n).count_ones())
 }

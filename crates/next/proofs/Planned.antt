@@ -1,10 +1,12 @@
 -- A plan's instants by the rows that the search holds, and that a plan has one answer.
+use Rattle.std.specs.Prelude.{Option, Result, Ok, Err}
 use mathlib.Core.List.{List, map}
-use mathlib.Core.Path.{◌≡◌, refl, sym, ap, ◌∙◌}
+use mathlib.Core.Path.{◌≡◌, sym, ap, ◌∙◌}
 use Prim.Native.Nat.{ℕ}
 use borrow.Author.Tests.{ltb-true, lt-ltb}
 use Rattle.calendar.proofs.Every.{both_true}
 use Rattle.held.specs.Lists.{list_held}
+use Rattle.load.specs.declared.NotTaken.{NotTaken}
 use Rattle.plan.proofs.Rows.{plan_held_by_rows}
 use Rattle.plan.specs.Plan.{PlanInstant, plan_zone}
 use Rattle.plan.specs.Rows.{row_of}
@@ -12,9 +14,7 @@ use Rattle.plan.specs.Taken.{Loaded, taken, refused, load}
 use Rattle.plan.specs.declared.Frame.{Frame}
 use Rattle.zone.specs.Zone.{in_window}
 use Rattle.next.specs.Instants.{InstantOf}
-use Rattle.next.specs.Plans.{AnswerBy, NextIn, PreviousIn, answer_of}
-use Rattle.next.specs.declared.Answer.{Answer}
-use Rattle.next.specs.declared.Found.{Found}
+use Rattle.next.specs.Plans.{AnswerBy, NextIn, PreviousIn}
 use Rattle.next.proofs.Answered.{next_unique, previous_unique}
 
 -- the instants of the rows
@@ -31,26 +31,16 @@ row_of_plan fs i p =
     let h = both_true (in_window m) (list_held (map row_of fs) m) (sym (plan_held_by_rows fs m) ∙ p.held) in
     record { minute = m; window = ltb-true m 52596000 h.0; holds = h.1; becomes = p.becomes }
 
--- what is found is the answer
-pub answer_found : (right : List Frame → Found → Type 0) (fs : List Frame) (f : Found) → right fs f → AnswerBy right (taken fs) (answer_of f)
-unfolding AnswerBy
-answer_found right fs (Found.Is i) a = a
-answer_found right fs Found.Never a = a
-
-module _ (right : List Frame → Found → Type 0) (one : (fs : List Frame) (r s : Found) → right fs r → right fs s → r ≡ s) where
-  answer_unique : (l : Loaded) (r s : Answer) → AnswerBy right l r → AnswerBy right l s → r ≡ s
+module _ (right : List Frame → Option ℕ → Type 0) (one : (fs : List Frame) (r s : Option ℕ) → right fs r → right fs s → r ≡ s) where
+  answer_unique : (l : Loaded) (r s : Result (Option ℕ) NotTaken) → AnswerBy right l r → AnswerBy right l s → r ≡ s
   unfolding AnswerBy
   answer_unique (refused k) r s a b = a ∙ sym b
-  answer_unique (taken fs) (Answer.Is i) (Answer.Is j) a b = ap answer_of (one fs (Found.Is i) (Found.Is j) a b)
-  answer_unique (taken fs) (Answer.Is i) Answer.Never a b = ap answer_of (one fs (Found.Is i) Found.Never a b)
-  answer_unique (taken fs) Answer.Never (Answer.Is j) a b = ap answer_of (one fs Found.Never (Found.Is j) a b)
-  answer_unique (taken fs) Answer.Never Answer.Never a b = refl
-  answer_unique (taken fs) (Answer.Refused k) s a b = absurd a
-  answer_unique (taken fs) (Answer.Is i) (Answer.Refused k) a b = absurd b
-  answer_unique (taken fs) Answer.Never (Answer.Refused k) a b = absurd b
+  answer_unique (taken fs) (Ok r) (Ok s) a b = ap Ok (one fs r s a b)
+  answer_unique (taken fs) (Ok r) (Err e) a b = absurd b
+  answer_unique (taken fs) (Err e) s a b = absurd a
 
 -- a plan has one next and one previous
-module _ (plan : List ℕ) (asked : ℕ) (r s : Answer) where
+module _ (plan : List ℕ) (asked : ℕ) (r s : Result (Option ℕ) NotTaken) where
   pub next_in_unique : NextIn plan asked r → NextIn plan asked s → r ≡ s
   unfolding NextIn
   next_in_unique = answer_unique _ (λ fs. next_unique (PlanInstant fs) asked) (load plan) r s

@@ -1,38 +1,33 @@
 -- What the search holds once a plan is loaded: its frames' rows in front, and its zone.
+use Rattle.std.specs.Prelude.{Result, Ok, Err}
 use mathlib.Core.Bool.{true}
 use mathlib.Core.List.{List, map}
 use mathlib.Core.Path.{◌≡◌, refl, sym, ap, ◌∙◌}
-use Prim.Native.Nat.{ℕ, ◌+◌, ◌≤◌, min}
+use Prim.Native.Nat.{ℕ, ◌+◌, ◌≤◌}
 use native.Mathlib.Omega.{arith}
 use lib.ListN.{length, take, drop, length-map}
-use lib.Seq.{sets, sets-eq, take_all, take-append_seam}
-use Rattle.held.specs.Lists.{list_held, first_of}
+use lib.Seq.{sets, sets-eq, take-append_seam}
 use Rattle.load.proofs.Zones.{read_frames_of_taken, taken_zone, taken_few}
-use Rattle.load.specs.Loads.{loaded_as, read_frames}
+use Rattle.load.specs.Loads.{not_taken, loaded_as, read_frames}
 use Rattle.load.specs.Zones.{zone_of}
-use Rattle.load.specs.declared.Loaded.{Loaded}
+use Rattle.load.specs.declared.NotTaken.{NotTaken}
 use Rattle.plan.specs.Plan.{PlanInstant, plan_zone}
 use Rattle.plan.specs.Rows.{row_of}
-use Rattle.plan.specs.Taken.{Loaded as Load, taken, refused, load}
+use Rattle.plan.specs.Taken.{Loaded, taken, refused, load}
 use Rattle.plan.specs.declared.Frame.{Frame}
 use Rattle.zone.proofs.Good.{Within}
 use Rattle.zone.proofs.Stretches.{instants_range}
 use Rattle.zone.specs.Held.{offsets_of}
-use Rattle.zone.specs.Stretches.{instant_of_local}
-use Rattle.zone.specs.Zone.{Offsets, offset_at, zone_good}
-use Rattle.next.specs.Instants.{InstantOf}
-use Rattle.next.specs.Plans.{AnswerBy, RightOf, AskedIn, answer_of, found_of, local_of, local_by, local_in, offset_of, offset_by, offset_in}
-use Rattle.next.specs.declared.Answer.{Answer}
-use Rattle.next.specs.declared.Ask.{Ask}
-use Rattle.next.specs.declared.Found.{Found}
-use Rattle.next.proofs.Answered.{next_same, previous_same}
-use Rattle.next.proofs.Planned.{plan_of_row, row_of_plan, answer_found}
+use Rattle.zone.specs.Zone.{zone_good}
+use Rattle.next.specs.Plans.{AnswerBy}
+use Rattle.next.proofs.Planned.{row_of_plan}
 
 pub record Ready (plan : List ℕ) (rows : List (List ℕ)) (count : ℕ) : Type 0 where
   pub frames : List Frame
   pub is : load plan ≡ taken frames
-  pub held : first_of count rows ≡ map row_of frames
-  pub zone : offsets_of (zone_of rows count) ≡ plan_zone frames
+  pub fits : count ≤ 64
+  pub held : take count rows ≡ map row_of frames
+  pub zone : offsets_of (zone_of (take count rows)) ≡ plan_zone frames
   pub good : zone_good (plan_zone frames) ≡ true
 
 -- the rows in front
@@ -44,91 +39,57 @@ front fs rows h =
     ∙ take-append_seam r (drop (0 + length r) rows)
 
 -- after the load of a plan that is taken
-pub ready : (plan : List ℕ) (before rows : List (List ℕ)) (count : ℕ) → length before ≡ 64 → loaded_as (load plan) ≡ Loaded.Taken count
+pub ready : (plan : List ℕ) (before rows : List (List ℕ)) (count : ℕ) → length before ≡ 64 → Ok count ≡ loaded_as (load plan)
     → rows ≡ sets before 0 (map row_of (read_frames plan)) → Ready plan rows count
 ready plan before rows count l a s = by_load (load plan) refl a
   where
-    by_load : (o : Load) → load plan ≡ o → loaded_as o ≡ Loaded.Taken count → Ready plan rows count
+    by_load : (o : Loaded) → load plan ≡ o → Ok count ≡ loaded_as o → Ready plan rows count
     by_load (taken fs) e q =
         let n : count ≡ length fs = cc in
         let few : length fs ≤ 64 = taken_few plan fs e in
-        let r : take (length fs) rows ≡ map row_of fs =
-        ap (take (length fs)) (s ∙ ap (λ (gs : List Frame). sets before 0 (map row_of gs)) (read_frames_of_taken plan fs e))
+        let r : take count rows ≡ map row_of fs =
+        ap (λ (k : ℕ). take k rows) n
+        ∙ ap (take (length fs)) (s ∙ ap (λ (gs : List Frame). sets before 0 (map row_of gs)) (read_frames_of_taken plan fs e))
         ∙ front fs before (omega arith) in
-        let z = taken_zone plan fs e rows r in
-        let m : min count 64 ≡ length fs = omega arith in
-        record {
-          frames = fs;
-          is = e;
-          held = ap (λ (k : ℕ). take k rows) m ∙ r;
-          zone = ap (λ (k : ℕ). offsets_of (zone_of rows k)) n ∙ z.0;
-          good = z.1;
-        }
+        let z = taken_zone plan fs e in
+        record { frames = fs; is = e; fits = omega arith; held = r; zone = ap (λ (l : List (List ℕ)). offsets_of (zone_of l)) r ∙ z.0; good = z.1 }
     by_load (refused k) e q = let z : ◌≡◌ {A = ℕ} 0 1 = cc in absurd (omega arith)
 
--- and where it is not taken
-pub load_refused : (plan : List ℕ) (k : ℕ) → loaded_as (load plan) ≡ Loaded.Refused k → load plan ≡ refused k
-load_refused plan k a = by_load (load plan) a
-  where
-    by_load : (o : Load) → loaded_as o ≡ Loaded.Refused k → o ≡ refused k
-    by_load (taken fs) q = let z : ◌≡◌ {A = ℕ} 0 1 = cc in absurd (omega arith)
-    by_load (refused j) q = let e : j ≡ k = cc in ap refused e
-
-pub answer_refused : (right : List Frame → Found → Type 0) (plan : List ℕ) (k : ℕ) → loaded_as (load plan) ≡ Loaded.Refused k
-    → AnswerBy right (load plan) (Answer.Refused k)
-unfolding AnswerBy
-answer_refused right plan k a = rw (load_refused plan k a) refl
-
--- what is right of the rows' instants and zone is right of the plan's
-right_same : (p q : ℕ → Type 0) → ((j : ℕ) → p j → q j) → ((j : ℕ) → q j → p j) → (z : Offsets) (ask : Ask) (f : Found) → RightOf p z ask f
-    → RightOf q z ask f
-unfolding RightOf
-right_same p q to back z (Ask.Next i) f a = next_same p q to back i f a
-right_same p q to back z (Ask.Previous i) f a = previous_same p q to back i f a
-right_same p q to back z (Ask.Local m) f a = a
-right_same p q to back z (Ask.Offset i) f a = a
-
-module _ (plan : List ℕ) (rows : List (List ℕ)) (count : ℕ) (r : Ready plan rows count) where
-  -- the zone of the rows keeps the limits
-  pub good_ready : zone_good (offsets_of (zone_of rows count)) ≡ true
-  good_ready = ap zone_good r.zone ∙ r.good
-
-  -- what is found among the rows is the answer of the plan
-  pub answer_ready : (ask : Ask) (f : Found)
-      → RightOf (InstantOf (list_held (first_of count rows)) (offsets_of (zone_of rows count))) (offsets_of (zone_of rows count)) ask f
-      → AskedIn plan ask (answer_of f)
-  unfolding AskedIn
-  answer_ready ask f a =
-      let fs = r.frames in
-      rw r.is
-      (answer_found (λ (fs : List Frame). RightOf (PlanInstant fs) (plan_zone fs) ask) fs f
-      (right_same _ (PlanInstant fs) (plan_of_row fs) (row_of_plan fs) (plan_zone fs) ask f (rw (r.zone, r.held) at a)))
-
--- what is asked has one right answer, in the form that its function answers
-module _ {X : Type 0} (of : Answer → X) (found : List Frame → Found) (by : Load → X)
-    (is_taken : (fs : List Frame) → of (answer_of (found fs)) ≡ by (taken fs)) (is_refused : (k : ℕ)
-    → of (Answer.Refused k) ≡ by (refused k)) where
-  one_answer : (l : Load) (a : Answer) → AnswerBy (λ (fs : List Frame) (r : Found). r ≡ found fs) l a → of a ≡ by l
+module _ {T : Type 0} (right : List Frame → T → Type 0) (plan : List ℕ) where
+  -- what is right of the frames is the answer
+  pub answer_taken : (rows : List (List ℕ)) (count : ℕ) (r : Ready plan rows count) (x : T) → right r.frames x → AnswerBy right (load plan) (Ok x)
   unfolding AnswerBy
-  one_answer (taken fs) (Answer.Is i) e = ap (λ (f : Found). of (answer_of f)) e ∙ is_taken fs
-  one_answer (taken fs) Answer.Never e = ap (λ (f : Found). of (answer_of f)) e ∙ is_taken fs
-  one_answer (taken fs) (Answer.Refused k) e = absurd e
-  one_answer (refused k) a e = ap of e ∙ is_refused k
+  answer_taken rows count r x a = rw r.is a
 
-pub local_answer_lem : (plan : List ℕ) (m : ℕ) (a : Answer) → AskedIn plan (Ask.Local m) a → local_of a ≡ local_in plan m
-unfolding AskedIn RightOf local_in local_by
-local_answer_lem plan m a =
-    one_answer local_of (λ fs. found_of (instant_of_local (plan_zone fs) m)) (λ l. local_by l m) (λ fs. refl) (λ k. refl) (load plan) a
+  -- and where the plan is not taken its line
+  pub answer_refused : (e : NotTaken) → Err e ≡ loaded_as (load plan) → AnswerBy right (load plan) (Err e)
+  unfolding AnswerBy
+  answer_refused e a = by_load (load plan) a
+    where
+      by_load : (o : Loaded) → Err e ≡ loaded_as o → AnswerBy right o (Err e)
+      by_load (taken fs) q = let z : ◌≡◌ {A = ℕ} 0 1 = cc in absurd (omega arith)
+      by_load (refused k) q = let d : e ≡ record { line = k } = cc in ap Err d
 
-pub offset_answer_lem : (plan : List ℕ) (i : ℕ) (a : Answer) → AskedIn plan (Ask.Offset i) a → offset_of a ≡ offset_in plan i
-unfolding AskedIn RightOf offset_in offset_by
-offset_answer_lem plan i a =
-    one_answer offset_of (λ fs. Found.Is (offset_at (plan_zone fs) i)) (λ l. offset_by l i) (λ fs. refl) (λ k. refl) (load plan) a
+-- by what is right of the frames
+module _ {T : Type 0} (right : List Frame → T → Type 0) where
+  pub answer_same : (other : List Frame → T → Type 0) → ((fs : List Frame) (x : T) → right fs x → other fs x)
+      → (l : Loaded) (r : Result T NotTaken) → AnswerBy right l r → AnswerBy other l r
+  unfolding AnswerBy
+  answer_same other to (taken fs) (Ok x) a = to fs x a
+  answer_same other to (taken fs) (Err e) a = a
+  answer_same other to (refused k) r a = a
+
+  pub one_answer : (by : Loaded → Result T NotTaken) → ((k : ℕ) → not_taken k ≡ by (refused k))
+      → ((fs : List Frame) (x : T) → right fs x → Ok x ≡ by (taken fs)) → (l : Loaded) (r : Result T NotTaken) → AnswerBy right l r → r ≡ by l
+  unfolding AnswerBy
+  one_answer by out same (taken fs) (Ok x) a = same fs x a
+  one_answer by out same (taken fs) (Err e) a = absurd a
+  one_answer by out same (refused k) r a = a ∙ out k
 
 -- a plan that is taken has a good zone, so its instants lie within a day of the window
 pub taken_good : (plan : List ℕ) (fs : List Frame) → load plan ≡ taken fs → zone_good (plan_zone fs) ≡ true
 taken_good plan fs e =
-    (taken_zone plan fs e (map row_of fs) (take_all (length fs) (map row_of fs) (omega (arith, length-map fs row_of)))).1
+    (taken_zone plan fs e).1
 
 pub plan_instants_range : (fs : List Frame) → zone_good (plan_zone fs) ≡ true → (i : ℕ) → PlanInstant fs i → Within 600 52598159 i
 plan_instants_range fs g i p =

@@ -1,31 +1,25 @@
--- The stretches as they are read off a zone's array.
+-- The stretches as they are read off a zone's transitions.
 use mathlib.Core.Path.{◌≡◌, sym, ap, ◌∙◌}
-use Prim.Native.Nat.{ℕ, ◌+◌, ◌-◌, ◌<◌, ◌≤◌, min}
+use Prim.Native.Nat.{ℕ, ◌+◌, ◌<◌, ◌≤◌}
 use native.Mathlib.Omega.{arith}
-use Rattle.zone.proofs.Held.{Passed, held_at, held_length, held_offset_first, held_offset, held_end}
+use lib.ListN.{length}
+use Rattle.zone.proofs.Held.{held_at, first_offset, held_end}
 use Rattle.zone.proofs.Stretches.{stretch_past_last, stretch_ends}
 use Rattle.zone.specs.Held.{offsets_of}
 use Rattle.zone.specs.Stretches.{boundary, stretch_from, stretch_offset}
+use Rattle.zone.specs.Zone.{Offsets}
 use Rattle.zone.specs.declared.Zone.{Zone}
 
-module _ (w : Zone) (passed : Passed w) where
-  pub first_offset : w.first ≡ stretch_offset (offsets_of w) 0
-  first_offset = sym (held_offset_first w passed 0 (omega arith))
+-- the first stretch has the zone's first offset
+pub first_held : (w : Zone) → w.first ≡ stretch_offset (offsets_of w) 0
+unfolding offsets_of
+first_held w = sym (first_offset (offsets_of w))
 
-  -- transition j starts stretch j + 1
-  pub offset_from_lem : (j k : ℕ) → k ≡ j + 1 → j < min w.count 32 → (held_at w j).offset ≡ stretch_offset (offsets_of w) k
-  offset_from_lem j k e l =
-      let d : k - 1 ≡ j = omega arith in
-      sym (held_offset w passed k k (omega arith) (omega arith) ∙ ap (λ (n : ℕ). (held_at w n).offset) d)
-
-  pub from_there : (j k offset : ℕ) → k ≡ j + 1 → j < min w.count 32 → offset ≡ stretch_offset (offsets_of w) j
-      → boundary offset (held_at w j) ≡ stretch_from (offsets_of w) k
-  from_there j k offset e l o =
-      ap (λ (x : ℕ). boundary x (held_at w j)) o
-      ∙ sym (held_end w passed j l)
-      ∙ sym (stretch_ends (offsets_of w) j)
-      ∙ ap (stretch_from (offsets_of w)) (sym e)
+module _ (z : Offsets) where
+  -- transition k starts stretch k + 1
+  pub from_there : (k offset : ℕ) → k < length z.changes → offset ≡ stretch_offset z k → boundary offset (held_at z k) ≡ stretch_from z (k + 1)
+  from_there k offset l o = ap (λ (x : ℕ). boundary x (held_at z k)) o ∙ sym (held_end z k l) ∙ sym (stretch_ends z k)
 
   -- the last ends with the window
-  pub last_end : (k : ℕ) → min w.count 32 ≤ k → 52596000 ≡ stretch_from (offsets_of w) (k + 1)
-  last_end k l = sym (stretch_past_last (offsets_of w) (k + 1) (omega (arith, held_length w passed)))
+  pub last_end : (k : ℕ) → length z.changes ≤ k → 52596000 ≡ stretch_from z (k + 1)
+  last_end k l = sym (stretch_past_last z (k + 1) (omega arith))

@@ -1,7 +1,8 @@
 -- Parts taken up one after the other, as all parts of the rule: of one given twice the first counts.
+use Rattle.std.specs.Prelude.{Option, None, Some, unwrap_or}
+use Rattle.std.specs.Option.{is_some}
 use mathlib.Core.Bool.{Bool, true, false, cond, ◌&&◌, ◌||◌, or_assoc, or-true, or-false, and_assoc, and-true, true≢false}
 use mathlib.Core.List.{List, [], ◌∷◌, ◌++◌, append-nil, append_assoc}
-use mathlib.Core.Option.{Option, none, some, get_or}
 use mathlib.Core.Path.{◌≡◌, refl, sym, ap, ◌∙◌}
 use Prim.Native.Nat.{ℕ, ◌+◌, ◌<◌}
 use native.Mathlib.Omega.{arith}
@@ -10,98 +11,57 @@ use lib.Dec.{eqb}
 use lib.ListN.{length}
 use Rattle.calendar.proofs.Every.{same_either_way, regrouped}
 use Rattle.calendar.specs.Below.{any_of, all_of}
+use Rattle.entries.proofs.Gathering.{step_of, gathered_list, made_same}
+use Rattle.entries.specs.Gathered.{gathered, ended}
 use Rattle.entries.specs.Lists.{weekdays_given, numbers_given, months_given}
 use Rattle.masks.proofs.MaskFroms.{mask_ext, mask_from_same, mask_from_below, bit_in_mask}
 use Rattle.masks.proofs.WithBits.{bit_of_with_bit, with_bit_below}
 use Rattle.masks.specs.Masks.{bit, mask_from, with_bit}
 use Rattle.sheet.specs.Form.{Time, Entry, Frequency, Part, freq, interval, count, until, by_day, by_month_day, by_set_pos, by_month}
 use Rattle.sheet.specs.Parts.{Given, given_of, name_of, given_twice}
-use Rattle.sheet.specs.Range.{part_in_range}
+use Rattle.sheet.specs.Range.{time_in_range, minute_of, part_in_range}
 use Rattle.sheet.specs.Words.{Signed}
-use Rattle.words.proofs.Folding.{taken_as}
-use Rattle.words.specs.Lists.{over_all, list_at}
-use Rattle.words.specs.Reads.{cursor}
-use Rattle.parts.specs.Given.{name_in, good_in, with_value, taken, frequency_from, count_from, until_from, days_from, numbers_from, months_from, parts_given, parts_read, parts_as}
+use Rattle.words.specs.Lists.{over_all}
+use Rattle.parts.specs.Given.{name_in, good_in, with_value, taken, take_part, frequency_from, until_from, days_from, numbers_from, months_from, parts_given, parts_read, parts_as}
 use Rattle.parts.specs.Values.{part_as, part_read}
-use Rattle.parts.specs.declared.given.Given.{Given as Answer}
 use Rattle.parts.specs.declared.given.Parts.{Parts}
 
 -- ---- the first part of a name
 abbrev first_of : ℕ → Part → Option Part → Option Part
-first_of k p other = cond (eqb (name_of p) k) (some p) other
+first_of k p other = cond (eqb (name_of p) k) (Some p) other
 
 lookup : ℕ → List Part → Option Part
-lookup k [] = none
+lookup k [] = None
 lookup k (p ∷ ps) = first_of k p (lookup k ps)
 
 abbrev named : ℕ → List Part → Bool
 named k ps = any_of (λ p. eqb (name_of p) k) ps
 
 frequency_in : Option Part → Option Frequency
-frequency_in none = none
-frequency_in (some (freq f)) = some f
-frequency_in (some (interval n)) = none
-frequency_in (some (count n)) = none
-frequency_in (some (until t)) = none
-frequency_in (some (by_day es)) = none
-frequency_in (some (by_month_day ns)) = none
-frequency_in (some (by_set_pos ns)) = none
-frequency_in (some (by_month ms)) = none
+frequency_in (Some (freq f)) = Some f
+frequency_in _ = None
 
 number_in : Option Part → Option ℕ
-number_in none = none
-number_in (some (freq f)) = none
-number_in (some (interval n)) = some n
-number_in (some (count n)) = some n
-number_in (some (until t)) = none
-number_in (some (by_day es)) = none
-number_in (some (by_month_day ns)) = none
-number_in (some (by_set_pos ns)) = none
-number_in (some (by_month ms)) = none
+number_in (Some (interval n)) = Some n
+number_in (Some (count n)) = Some n
+number_in _ = None
 
 time_in : Option Part → Option Time
-time_in none = none
-time_in (some (freq f)) = none
-time_in (some (interval n)) = none
-time_in (some (count n)) = none
-time_in (some (until t)) = some t
-time_in (some (by_day es)) = none
-time_in (some (by_month_day ns)) = none
-time_in (some (by_set_pos ns)) = none
-time_in (some (by_month ms)) = none
+time_in (Some (until t)) = Some t
+time_in _ = None
 
 entries_in : Option Part → Option (List Entry)
-entries_in none = none
-entries_in (some (freq f)) = none
-entries_in (some (interval n)) = none
-entries_in (some (count n)) = none
-entries_in (some (until t)) = none
-entries_in (some (by_day es)) = some es
-entries_in (some (by_month_day ns)) = none
-entries_in (some (by_set_pos ns)) = none
-entries_in (some (by_month ms)) = none
+entries_in (Some (by_day es)) = Some es
+entries_in _ = None
 
 numbers_in : Option Part → Option (List Signed)
-numbers_in none = none
-numbers_in (some (freq f)) = none
-numbers_in (some (interval n)) = none
-numbers_in (some (count n)) = none
-numbers_in (some (until t)) = none
-numbers_in (some (by_day es)) = none
-numbers_in (some (by_month_day ns)) = some ns
-numbers_in (some (by_set_pos ns)) = some ns
-numbers_in (some (by_month ms)) = none
+numbers_in (Some (by_month_day ns)) = Some ns
+numbers_in (Some (by_set_pos ns)) = Some ns
+numbers_in _ = None
 
 months_in : Option Part → Option (List ℕ)
-months_in none = none
-months_in (some (freq f)) = none
-months_in (some (interval n)) = none
-months_in (some (count n)) = none
-months_in (some (until t)) = none
-months_in (some (by_day es)) = none
-months_in (some (by_month_day ns)) = none
-months_in (some (by_set_pos ns)) = none
-months_in (some (by_month ms)) = some ms
+months_in (Some (by_month ms)) = Some ms
+months_in _ = None
 
 given_by : (ℕ → Option Part) → Given
 given_by f =
@@ -157,18 +117,18 @@ module _ (p : Part) where
   lookup_there k (q ∷ ps) e = by_first (eqb (name_of q) k) e (lookup_there k ps)
     where
       by_first : (b : Bool) → (b || named k ps) ≡ true → (named k ps ≡ true → lookup k (ps ++ (p ∷ [])) ≡ lookup k ps)
-          → cond b (some q) (lookup k (ps ++ (p ∷ []))) ≡ cond b (some q) (lookup k ps)
+          → cond b (Some q) (lookup k (ps ++ (p ∷ []))) ≡ cond b (Some q) (lookup k ps)
       by_first true e again = refl
       by_first false e again = again e
 
-  lookup_new : (k : ℕ) (ps : List Part) → named k ps ≡ false → (lookup k (ps ++ (p ∷ [])) ≡ first_of k p none) × (lookup k ps ≡ none)
+  lookup_new : (k : ℕ) (ps : List Part) → named k ps ≡ false → (lookup k (ps ++ (p ∷ [])) ≡ first_of k p None) × (lookup k ps ≡ None)
   unfolding lookup
   lookup_new k [] e = (refl, refl)
   lookup_new k (q ∷ ps) e = by_first (eqb (name_of q) k) e (lookup_new k ps)
     where
       by_first : (b : Bool) → (b || named k ps) ≡ false
-          → (named k ps ≡ false → (lookup k (ps ++ (p ∷ [])) ≡ first_of k p none) × (lookup k ps ≡ none))
-          → (cond b (some q) (lookup k (ps ++ (p ∷ []))) ≡ first_of k p none) × (cond b (some q) (lookup k ps) ≡ none)
+          → (named k ps ≡ false → (lookup k (ps ++ (p ∷ [])) ≡ first_of k p None) × (lookup k ps ≡ None))
+          → (cond b (Some q) (lookup k (ps ++ (p ∷ []))) ≡ first_of k p None) × (cond b (Some q) (lookup k ps) ≡ None)
       by_first true e again = let z : ◌≡◌ {A = ℕ} 0 1 = cc in absurd (omega arith)
       by_first false e again = again e
 
@@ -201,8 +161,8 @@ built names twice good g =
       twice = twice;
       good = good;
       frequency = frequency_from g.frequency;
-      interval = get_or g.interval 1;
-      count = count_from g.count;
+      interval = unwrap_or g.interval 1;
+      count = g.count;
       until = until_from g.until;
       weekdays = days_from g.days;
       days = numbers_from g.month_days;
@@ -233,12 +193,16 @@ name_as (by_month_day ns) = refl
 name_as (by_set_pos ns) = refl
 name_as (by_month ms) = refl
 
+some_if : (b : Bool) (n : ℕ) → is_some (cond b (Some n) None) ≡ b
+some_if true n = refl
+some_if false n = refl
+
 good_as : (p : Part) → good_in (part_as p) ≡ part_in_range p
 unfolding part_as part_in_range weekdays_given numbers_given months_given
 good_as (freq f) = refl
 good_as (interval n) = refl
 good_as (count n) = refl
-good_as (until t) = refl
+good_as (until t) = some_if (time_in_range t) (minute_of t)
 good_as (by_day es) = refl
 good_as (by_month_day ns) = refl
 good_as (by_set_pos ns) = refl
@@ -311,22 +275,15 @@ module _ (p : Part) (ps : List Part) where
           (value_more (names_of (ps ++ (p ∷ []))) (given_twice ps) (all_of part_in_range ps && part_in_range p) p ps)
 
 -- ---- all of them
-abbrev pub take_part : Parts → Part → Parts
-take_part m p = taken m (part_as p)
-
 parts_over : (qs ps : List Part) → over_all take_part (parts_given qs) ps ≡ parts_given (qs ++ ps)
 unfolding over_all
 parts_over qs [] = ap parts_given (sym (append-nil qs))
 parts_over qs (p ∷ ps) = rw (part_step p qs) (parts_over (qs ++ (p ∷ [])) ps ∙ ap parts_given (append_assoc qs (p ∷ []) ps))
 
-abbrev pub parts_is : Parts → ℕ → Answer
-parts_is m e = Answer.Is m (cursor e)
-
-parts_by : (o : Option (List Part × ℕ)) → taken_as take_part parts_is Answer.Not (parts_given []) o ≡ parts_as o
-parts_by none = refl
-parts_by (some r) = ap (λ (m : Parts). parts_is m r.1) (parts_over [] r.0)
-
 pub parts_taken : (s : List ℕ) (at : ℕ)
-    → taken_as take_part parts_is Answer.Not (parts_given []) (list_at (part_read s) 59 s (length s + 1) at) ≡ parts_as (parts_read s at)
+    → ended (gathered (step_of take_part (part_read s)) 59 s (length s + 1) (parts_given []) at) ≡ parts_as (parts_read s at)
 unfolding parts_read
-parts_taken s at = parts_by (list_at (part_read s) 59 s (length s + 1) at)
+parts_taken s at =
+    ap ended
+    (gathered_list take_part (part_read s) 59 s (length s + 1) (parts_given []) at
+    ∙ made_same (over_all take_part (parts_given [])) parts_given _ (λ ps e q. parts_over [] ps))

@@ -1,7 +1,7 @@
 -- A name and its `=` as one word, against a name that is a whole piece before `=`.
+use Rattle.std.specs.Prelude.{Option, None, Some}
 use mathlib.Core.Bool.{Bool, true, false, cond, not, and-false}
 use mathlib.Core.List.{List, [], ◌∷◌, ◌++◌}
-use mathlib.Core.Option.{Option, none, some}
 use mathlib.Core.Path.{◌≡◌, refl, sym, ap, ◌∙◌}
 use Prim.Native.Nat.{ℕ, suc, ◌+◌}
 use native.Mathlib.Omega.{arith}
@@ -48,8 +48,8 @@ module _ (c : ℕ) where
 
 -- a name's place, and the place after what was read
 abbrev pub placed : ℕ → Option ℕ → Option (ℕ × ℕ)
-placed e none = none
-placed e (some k) = some (k, e)
+placed e None = None
+placed e (Some k) = Some (k, e)
 
 module _ (c : ℕ) (s : List ℕ) (at : ℕ) (q : List ℕ) (whole : Whole c q) where
   pub heads_same : (rest : List ℕ) → drop at s ≡ q ++ (c ∷ rest) → (names : List (List ℕ)) → without c names ≡ true
@@ -63,12 +63,12 @@ module _ (c : ℕ) (s : List ℕ) (at : ℕ) (q : List ℕ) (whole : Whole c q) 
       starts = ap (starts_with (name ++ (c ∷ []))) here ∙ head_same c name q rest (both_true (all_of (λ x. not (eqb x c)) name) _ a).0 whole
 
       next : (o : Option ℕ) → made_read suc (placed (at + length q + 1) o) ≡ placed (at + length q + 1) (made suc o)
-      next none = refl
-      next (some k) = refl
+      next None = refl
+      next (Some k) = refl
 
       by_same : (b : Bool) → same_bytes name q ≡ b → one_at (heads c names) s at ≡ placed (at + length q + 1) (word_of names q)
-          → cond (starts_with (name ++ (c ∷ [])) (drop at s)) (some (0, at + length (name ++ (c ∷ [])))) (made_read suc (one_at (heads c names) s at))
-          ≡ placed (at + length q + 1) (cond (same_bytes name q) (some 0) (made suc (word_of names q)))
+          → cond (starts_with (name ++ (c ∷ [])) (drop at s)) (Some (0, at + length (name ++ (c ∷ [])))) (made_read suc (one_at (heads c names) s at))
+          ≡ placed (at + length q + 1) (cond (same_bytes name q) (Some 0) (made suc (word_of names q)))
       by_same true e again =
           let n : at + length (name ++ (c ∷ [])) ≡ at + length q + 1 =
           omega (arith, length-append name (c ∷ []), ap length (same_is name q e)) in
@@ -76,7 +76,7 @@ module _ (c : ℕ) (s : List ℕ) (at : ℕ) (q : List ℕ) (whole : Whole c q) 
       by_same false e again = rw (starts, e, again) (next (word_of names q))
 
   pub heads_never : (tail : List ℕ) → drop at s ≡ q ++ tail → (names : List (List ℕ)) → without (get_or tail 0 0) (heads c names) ≡ true
-      → one_at (heads c names) s at ≡ none
+      → one_at (heads c names) s at ≡ None
   unfolding one_at
   heads_never tail here [] a = refl
   heads_never tail here (name ∷ names) a =

@@ -3,6 +3,4 @@ pub mod Places
 pub mod Valued
 pub mod Heads
 pub mod Whole
-pub mod Answers
 pub mod Gathered
-pub mod Parting

@@ -1,6 +1,6 @@
 -- A part ends no earlier than it begins, whatever the line.
+use Rattle.std.specs.Prelude.{Option, None, Some}
 use mathlib.Core.List.{List}
-use mathlib.Core.Option.{Option, none, some}
 use mathlib.Core.Path.{◌≡◌, refl}
 use Prim.Native.Nat.{ℕ, ◌≤◌}
 use native.Mathlib.Omega.{arith}
@@ -13,15 +13,15 @@ use Rattle.words.specs.Reads.{number_at}
 use Rattle.parts.specs.Values.{part_heads, frequency_of, value_read, part_read}
 
 -- ---- a part, by its name
-pub part_value : (s : List ℕ) (at k e : ℕ) → one_at part_heads s at ≡ some (k, e) → part_read s at ≡ value_read k s e
+pub part_value : (s : List ℕ) (at k e : ℕ) → one_at part_heads s at ≡ Some (k, e) → part_read s at ≡ value_read k s e
 unfolding part_read
 part_value s at k e q = rw (part_read, q) refl
 
-pub part_not : (s : List ℕ) (at : ℕ) → one_at part_heads s at ≡ none → part_read s at ≡ none
+pub part_not : (s : List ℕ) (at : ℕ) → one_at part_heads s at ≡ None → part_read s at ≡ None
 unfolding part_read
 part_not s at q = rw (part_read, q) refl
 
-pub value_after : (k : ℕ) (s : List ℕ) (at : ℕ) (x : Part) (e : ℕ) → value_read k s at ≡ some (x, e) → at ≤ e
+pub value_after : (k : ℕ) (s : List ℕ) (at : ℕ) (x : Part) (e : ℕ) → value_read k s at ≡ Some (x, e) → at ≤ e
 unfolding value_read
 value_after k s at =
     let P : Part → ℕ → Type 0 = λ x e. at ≤ e in
@@ -33,11 +33,11 @@ value_after k s at =
     (read_cond P (eqb k 5) _ _ (read_made by_month_day P _ (numbers_after s at))
     (read_cond P (eqb k 6) _ _ (read_made by_set_pos P _ (numbers_after s at)) (read_made by_month P _ (months_after s at))))))))
 
-pub part_after : (s : List ℕ) (at : ℕ) (x : Part) (e : ℕ) → part_read s at ≡ some (x, e) → at ≤ e
+pub part_after : (s : List ℕ) (at : ℕ) (x : Part) (e : ℕ) → part_read s at ≡ Some (x, e) → at ≤ e
 part_after s at = by_head (one_at part_heads s at) refl
   where
     by_head : (o : Option (ℕ × ℕ)) → one_at part_heads s at ≡ o → Reads (λ x e. at ≤ e) (part_read s at)
-    by_head none q = rw (part_not s at q) (read_none (λ (x : Part) (e : ℕ). at ≤ e))
-    by_head (some r) q =
+    by_head None q = rw (part_not s at q) (read_none (λ (x : Part) (e : ℕ). at ≤ e))
+    by_head (Some r) q =
         rw (part_value s at r.0 r.1 q)
         (λ x e p. omega (arith, one_after part_heads s at r.0 r.1 q, value_after r.0 s r.1 x e p))

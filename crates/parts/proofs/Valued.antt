@@ -1,7 +1,7 @@
 -- The value of a part: the readers by the part's name against the forms of a whole piece.
+use Rattle.std.specs.Prelude.{Option, None, Some}
 use mathlib.Core.Bool.{true, false}
 use mathlib.Core.List.{List, ◌++◌}
-use mathlib.Core.Option.{Option, none, some}
 use mathlib.Core.Path.{◌≡◌, refl}
 use Prim.Native.Nat.{ℕ, zero, suc, ◌+◌, ◌<◌}
 use native.Mathlib.Omega.{arith}
@@ -27,8 +27,8 @@ end_frequencies = end_byte (λ c. without c frequency_words ≡ true) refl refl 
 -- ---- the forms of values
 part_made : {A : Type 0} (part : A → Part) (o : Option A) → part_by part o ≡ made part o
 unfolding part_by
-part_made part none = refl
-part_made part (some a) = refl
+part_made part None = refl
+part_made part (Some a) = refl
 
 frequencies_apart : prefix_free frequency_words ≡ true
 unfolding prefix_free starts_with frequency_words
@@ -38,7 +38,7 @@ frequency_form : (p : List ℕ) → frequency_at (word_in frequency_words p) ≡
 unfolding frequency_words frequency_at
 frequency_form p = by_word (word_of frequency_words p) refl
   where
-    by_place : (k : ℕ) → k < 4 → frequency_at k ≡ some (freq (frequency_of k))
+    by_place : (k : ℕ) → k < 4 → frequency_at k ≡ Some (freq (frequency_of k))
     by_place zero h = refl
     by_place (suc zero) h = refl
     by_place (suc (suc zero)) h = refl
@@ -47,8 +47,8 @@ frequency_form p = by_word (word_of frequency_words p) refl
 
     by_word : (o : Option ℕ) → word_of frequency_words p ≡ o
         → frequency_at (word_in frequency_words p) ≡ made (λ (f : ℕ). freq (frequency_of f)) o
-    by_word none e = rw (word_place frequency_words p none e) refl
-    by_word (some k) e = rw (word_place frequency_words p (some k) e) (by_place k (word_tested (λ w. true) frequency_words p k refl e).1)
+    by_word None e = rw (word_place frequency_words p None e) refl
+    by_word (Some k) e = rw (word_place frequency_words p (Some k) e) (by_place k (word_tested (λ w. true) frequency_words p k refl e).1)
 
 module _ (s : List ℕ) (at : ℕ) (p tail : List ℕ) (here : drop at s ≡ p ++ tail) (ends : End tail) (other : eqb (get_or tail 0 0) 44 ≡ false) where
   value_by : {A : Type 0} (part : A → Part) (o : Option A) (r : Option (A × ℕ)) → Tied o r at (at + length p)

@@ -1,7 +1,7 @@
 -- A part of a rule, and all parts: the readers against the forms of a whole piece.
+use Rattle.std.specs.Prelude.{Option, None, Some}
 use mathlib.Core.Bool.{true, false}
 use mathlib.Core.List.{List, [], ◌∷◌, ◌++◌}
-use mathlib.Core.Option.{Option, none, some}
 use mathlib.Core.Path.{◌≡◌, refl, ap, ◌∙◌}
 use Prim.Native.Nat.{ℕ, ◌+◌, ◌<◌}
 use native.Mathlib.Omega.{arith}
@@ -55,7 +55,7 @@ stops_heads stops =
 
 -- ---- the form of a part by its name
 module _ (p q : List ℕ) where
-  part_alone : pieces 61 p ≡ q ∷ [] → part_of p ≡ none
+  part_alone : pieces 61 p ≡ q ∷ [] → part_of p ≡ None
   unfolding part_of
   part_alone e = rw e refl
 
@@ -71,15 +71,15 @@ module _ (p q : List ℕ) where
         by_cut : Cut 61 rest → part_of p ≡ only (value_of k) (pieces 61 rest)
         by_cut c = rw (e, c.cut) (by_others c.piece c.others)
 
-    part_unnamed : word_of part_words q ≡ none → part_of p ≡ none
+    part_unnamed : word_of part_words q ≡ None → part_of p ≡ None
     unfolding part_words value_of
-    part_unnamed f = part_form 8 (word_place part_words q none f) ∙ by_cut (cut_of 61 rest)
+    part_unnamed f = part_form 8 (word_place part_words q None f) ∙ by_cut (cut_of 61 rest)
       where
-        by_others : (v : List ℕ) (others : List (List ℕ)) → only (value_of 8) (v ∷ others) ≡ none
+        by_others : (v : List ℕ) (others : List (List ℕ)) → only (value_of 8) (v ∷ others) ≡ None
         by_others v [] = refl
         by_others v (o ∷ others) = refl
 
-        by_cut : Cut 61 rest → only (value_of 8) (pieces 61 rest) ≡ none
+        by_cut : Cut 61 rest → only (value_of 8) (pieces 61 rest) ≡ None
         by_cut c = rw c.cut (by_others c.piece c.others)
 
 -- ---- the readers
@@ -91,7 +91,7 @@ module _ (s : List ℕ) (at : ℕ) (p tail : List ℕ) (here : drop at s ≡ p +
   alone : (q : List ℕ) → p ≡ q ++ [] → pieces 61 p ≡ q ∷ [] → Whole 61 q → Tied (part_of p) (part_read s at) at (at + length p)
   alone q e d whole =
       let f : drop at s ≡ q ++ tail = cut_here q [] tail here e in
-      let g : one_at part_heads s at ≡ none = rw heads_are (heads_never 61 s at q whole tail f part_words (stops_heads stops)) in
+      let g : one_at part_heads s at ≡ None = rw heads_are (heads_never 61 s at q whole tail f part_words (stops_heads stops)) in
       rw (part_not s at g, part_alone p q d) (tied_none at (at + length p))
 
   -- a name, `=`, and the text of the value
@@ -112,9 +112,9 @@ module _ (s : List ℕ) (at : ℕ) (p tail : List ℕ) (here : drop at s ≡ p +
 
     by_name : (o : Option ℕ) → word_of part_words q ≡ o → Tied (part_of p) (part_read s at) at (at + length p)
     unfolding part_words
-    by_name none f = rw (part_not s at (head none f), part_unnamed p q rest d f) (tied_none at (at + length p))
-    by_name (some k) f =
-        rw (part_value s at k (at + length q + 1) (head (some k) f), part_form p q rest d k (word_place part_words q (some k) f))
+    by_name None f = rw (part_not s at (head None f), part_unnamed p q rest d f) (tied_none at (at + length p))
+    by_name (Some k) f =
+        rw (part_value s at k (at + length q + 1) (head (Some k) f), part_form p q rest d k (word_place part_words q (Some k) f))
         (value_here k (word_tested (λ w. true) part_words q k refl f).1)
 
   pub part_tied : Tied (part_of p) (part_read s at) at (at + length p)

@@ -1,15 +1,15 @@
 -- A part of a rule at a place: its name, then its value by the name.
-use Rattle.std.specs.Prelude.{cond, List, [], ◌∷◌, ℕ, eqb}
-use Rattle.std.proofs.Math.Option.{Option, none, some}
+use Rattle.std.specs.Prelude.{cond, List, [], ◌∷◌, ℕ, eqb, Option, None, Some}
+use Rattle.entries.specs.Gathered.{ended}
 use Rattle.entries.specs.Lists.{days_read, numbers_read, months_read, weekdays_given, numbers_given, months_given}
 use Rattle.framed.specs.Framed.{frequency_number}
 use Rattle.lines.specs.Bytes.{bytes}
 use Rattle.sheet.specs.Form.{Frequency, daily, weekly, monthly, yearly, frequency_words, Part, freq, interval, count, until, by_day, by_month_day, by_set_pos, by_month}
-use Rattle.sheet.specs.Range.{time_in_range, minute_of}
 use Rattle.words.specs.Answers.{made_read, number_read, time_read, one_at}
-use Rattle.words.specs.Reads.{cursor, number_at, time_at}
+use Rattle.words.specs.Reads.{number_at, time_at}
+use Rattle.words.specs.Times.{minute_as}
+use Rattle.words.specs.declared.cursor.Cursor.{Cursor}
 use Rattle.parts.specs.declared.part.Part.{Part as ReadPart}
-use Rattle.parts.specs.declared.part.Parted.{Parted}
 
 -- "`FREQ=` `INTERVAL=` `COUNT=` `UNTIL=` `BYDAY=` `BYMONTHDAY=` `BYSETPOS=`", and T-01's "`BYMONTH=`"
 unfoldable pub part_heads : List (List ℕ)
@@ -29,8 +29,8 @@ value_read k s at =
     (cond (eqb k 5) (made_read by_month_day (numbers_read s at)) (cond (eqb k 6) (made_read by_set_pos (numbers_read s at)) (made_read by_month (months_read s at))))))))
 
 value_of : List ℕ → Option (ℕ × ℕ) → Option (Part × ℕ)
-value_of s none = none
-value_of s (some r) = value_read r.0 s r.1
+value_of s None = None
+value_of s (Some r) = value_read r.0 s r.1
 
 unfoldable pub part_read : List ℕ → ℕ → Option (Part × ℕ)
 unfolding value_of
@@ -41,12 +41,11 @@ unfoldable pub part_as : Part → ReadPart
 part_as (freq f) = ReadPart.Frequency (frequency_number f)
 part_as (interval n) = ReadPart.Interval n
 part_as (count n) = ReadPart.Count n
-part_as (until t) = ReadPart.Until (time_in_range t) (cond (time_in_range t) (minute_of t) 0)
+part_as (until t) = ReadPart.Until (minute_as t)
 part_as (by_day es) = ReadPart.Days (weekdays_given es)
 part_as (by_month_day ns) = ReadPart.MonthDays (numbers_given ns)
 part_as (by_set_pos ns) = ReadPart.Positions (numbers_given ns)
 part_as (by_month ms) = ReadPart.Months (months_given ms)
 
-abbrev pub parted_as : Option (Part × ℕ) → Parted
-parted_as none = Parted.Not
-parted_as (some r) = Parted.Is (part_as r.0) (cursor r.1)
+abbrev pub parted_as : Option (Part × ℕ) → Option (ReadPart × Cursor)
+parted_as o = ended (made_read part_as o)

@@ -1,13 +1,15 @@
 // The parts of a rule together.
-ghost use Rattle.std.specs.Prelude.{[], ◌≡◌};
-ghost use Rattle.parts.specs.Given.{not_given, name_in, good_in, value_given, with_value, taken, parts_given, parts_as, parts_read};
+ghost use Rattle.std.specs.Prelude.{◌≡◌};
+ghost use Rattle.words.specs.Answers.{made_read};
+ghost use Rattle.entries.specs.Gathered.{ended};
+ghost use Rattle.parts.specs.Given.{name_in, good_in, with_value, taken, take_part, parts_as, parts_read};
+ghost use Rattle.parts.specs.Values.{part_read};
 
-use crate::part;
-use crate::part::{Part, Parted, part_at};
-use calendar::num::lies_within;
+use crate::names;
+use crate::part::{Part, part_at};
+use entries::list::gather;
 use entries::numbers::Numbers;
 use entries::weekdays::Weekdays;
-use frames::truth::both;
 use words::cursor::{Cursor, SEMICOLON};
 
 const MOST_INTERVAL: u64 = 999;
@@ -15,56 +17,50 @@ const MOST_INTERVAL: u64 = 999;
 const MOST_COUNT: u64 = 9999;
 
 #[derive(Clone, Copy)]
-pub struct Value {
-    pub given: bool,
-    pub number: u64,
-}
-
-fn stated(number: u64) -> Value
-    ensures { result ≡ value_given number }
-{
-    Value {
-        given: true,
-        number,
-    }
-}
-
-#[derive(Clone, Copy)]
 pub struct Parts {
     // Bit k: the part with the document's k-th name was read.
     pub names: u64,
     pub twice: bool,
-    // All numbers and dates are in range.
+    // All numbers and dates are in range. One that is not does not end the reading: a later form error comes first.
     pub good: bool,
-    // 1 daily, 2 weekly, 3 monthly, 4 yearly, 0 where none is given.
+    // The frame's number, the document's: 1 daily, 2 weekly, 3 monthly, 4 yearly, 0 where none is given.
     pub frequency: u64,
     pub interval: u64,
-    pub count: Value,
-    pub until: Value,
-    pub weekdays: Weekdays,
-    pub days: Numbers,
-    pub positions: Numbers,
-    pub months: Numbers,
+    pub count: Option<u64>,
+    // 0 where it is out of range: then `good` is false, and no rule is made of it.
+    pub until: Option<u64>,
+    pub weekdays: Option<Weekdays>,
+    pub days: Option<Numbers>,
+    pub positions: Option<Numbers>,
+    pub months: Option<Numbers>,
 }
 
-#[derive(Clone, Copy)]
-pub enum Given {
-    Is(Parts, Cursor),
-    Not,
-}
+const NOTHING: Parts = Parts {
+    names: 0,
+    twice: false,
+    good: true,
+    frequency: 0,
+    interval: 1,
+    count: None,
+    until: None,
+    weekdays: None,
+    days: None,
+    positions: None,
+    months: None,
+};
 
 fn name_in(x: Part) -> u64
     ensures { result ≡ name_in x }
 {
     match x {
-        Part::Frequency(_) => part::FREQ,
-        Part::Interval(_) => part::INTERVAL,
-        Part::Count(_) => part::COUNT,
-        Part::Until(_, _) => part::UNTIL,
-        Part::Days(_) => part::BYDAY,
-        Part::MonthDays(_) => part::BYMONTHDAY,
-        Part::Positions(_) => part::BYSETPOS,
-        Part::Months(_) => part::BYMONTH,
+        Part::Frequency(_) => names::FREQ,
+        Part::Interval(_) => names::INTERVAL,
+        Part::Count(_) => names::COUNT,
+        Part::Until(_) => names::UNTIL,
+        Part::Days(_) => names::BYDAY,
+        Part::MonthDays(_) => names::BYMONTHDAY,
+        Part::Positions(_) => names::BYSETPOS,
+        Part::Months(_) => names::BYMONTH,
     }
 }
 
@@ -73,124 +69,76 @@ fn good_in(x: Part) -> bool
 {
     match x {
         Part::Frequency(_) => true,
-        Part::Interval(n) => lies_within(1, MOST_INTERVAL, n),
-        Part::Count(n) => lies_within(1, MOST_COUNT, n),
-        Part::Until(good, _) => good,
+        Part::Interval(n) => (1..=MOST_INTERVAL).contains(&n),
+        Part::Count(n) => (1..=MOST_COUNT).contains(&n),
+        Part::Until(minute) => minute.is_some(),
         Part::Days(d) => d.good,
-        Part::MonthDays(d) => d.good,
-        Part::Positions(d) => d.good,
-        Part::Months(d) => d.good,
+        Part::MonthDays(d) | Part::Positions(d) | Part::Months(d) => d.good,
     }
 }
 
+#[tactic(auto, unfolding(crate::specs::Given::with_value))]
 fn with_value(m: Parts, x: Part) -> Parts
     ensures { result ≡ with_value m x }
 {
-    let mut r = m;
     match x {
-        Part::Frequency(n) => {
-            r.frequency = n;
-        }
-        Part::Interval(n) => {
-            r.interval = n;
-        }
-        Part::Count(n) => {
-            let count = stated(n);
-            r.count = count;
-        }
-        Part::Until(_, minute) => {
-            let until = stated(minute);
-            r.until = until;
-        }
-        Part::Days(d) => {
-            r.weekdays = d;
-        }
-        Part::MonthDays(d) => {
-            r.days = d;
-        }
-        Part::Positions(d) => {
-            r.positions = d;
-        }
-        Part::Months(d) => {
-            r.months = d;
-        }
+        Part::Frequency(frequency) => Parts { frequency, ..m },
+        Part::Interval(interval) => Parts { interval, ..m },
+        Part::Count(n) => Parts {
+            count: Some(n),
+            ..m
+        },
+        Part::Until(minute) => Parts {
+            until: Some(minute.unwrap_or(0)),
+            ..m
+        },
+        Part::Days(d) => Parts {
+            weekdays: Some(d),
+            ..m
+        },
+        Part::MonthDays(d) => Parts { days: Some(d), ..m },
+        Part::Positions(d) => Parts {
+            positions: Some(d),
+            ..m
+        },
+        Part::Months(d) => Parts {
+            months: Some(d),
+            ..m
+        },
     }
-    r
 }
 
 // With one part more: of a part given twice the first counts.
+#[tactic(auto, unfolding(crate::specs::Given::taken))]
 fn take(m: Parts, x: Part) -> Parts
     ensures { result ≡ taken m x }
 {
     let name = name_in(x);
-    let mut r = m;
-    r.good = both(m.good, good_in(x));
+    let m = Parts {
+        good: m.good && good_in(x),
+        ..m
+    };
     if masks::test(m.names, name) {
-        r.twice = true;
-        return r;
+        return Parts { twice: true, ..m };
     }
-    r.names = masks::with_bit(m.names, name);
-    with_value(r, x)
-}
-
-// A list that is not there.
-fn not_given() -> Numbers
-    ensures { result ≡ not_given }
-{
-    Numbers {
-        given: false,
-        good: true,
-        front: 0,
-        back: 0,
-    }
-}
-
-fn nothing() -> Parts
-    ensures { result ≡ parts_given [] }
-{
-    let none = not_given();
-    Parts {
-        names: 0,
-        twice: false,
-        good: true,
-        frequency: 0,
-        interval: 1,
-        count: Value {
-            given: false,
-            number: 0,
-        },
-        until: Value {
-            given: false,
-            number: 0,
-        },
-        weekdays: Weekdays {
-            given: false,
-            good: true,
-            ordinal: false,
-            plain: 0,
-            front: 0,
-            back: 0,
-        },
-        days: none,
-        positions: none,
-        months: none,
-    }
+    let names = masks::with_bit(m.names, name);
+    with_value(Parts { names, ..m }, x)
 }
 
 // The parts from a cursor on.
-pub fn parts_at(s: &[u8], c: Cursor) -> Given
+pub fn parts_at(s: &[u8], c: Cursor) -> Option<(Parts, Cursor)>
     ensures { result ≡ parts_as (parts_read s.now c.at) }
 {
-    let mut at = c.at;
-    let mut m = nothing();
-    loop {
-        let Parted::Is(x, next) = part_at(s, Cursor { at }) else {
-            return Given::Not;
-        };
-        m = take(m, x);
-        if next.byte(s) != SEMICOLON {
-            return Given::Is(m, next);
-        }
-        at = next.at + 1;
-    }
+    gather(
+        s,
+        SEMICOLON,
+        NOTHING,
+        c,
+        |m, c|
+            ensures { result ≡ ended (made_read (take_part m) (part_read s.entry.now c.at)) }
+        {
+            let (x, next) = part_at(s, c)?;
+            Some((take(m, x), next))
+        },
+    )
 }

@@ -1,7 +1,7 @@
 -- A frame written and read again is that frame, and a line that is read as a frame is that frame's line.
+use Rattle.std.specs.Prelude.{Option, None, Some}
 use mathlib.Core.Bool.{Bool, true, false, cond, ◌&&◌, and-eq-true_iff}
 use mathlib.Core.List.{List, [], ◌∷◌}
-use mathlib.Core.Option.{Option, none, some}
 use mathlib.Core.Path.{◌≡◌, refl, sym, ap, ◌∙◌}
 use Prim.Native.Nat.{ℕ, ◌+◌, ◌*◌, ◌%◌, ◌^◌, ◌<◌, ◌≤◌}
 use native.Mathlib.Omega.{arith}
@@ -64,7 +64,7 @@ line_fields_lem (Frame.Extra m) = refl
 line_fields_lem (Frame.Excepted m) = refl
 line_fields_lem (Frame.End n) = refl
 
-pub frame_spells : (f : Frame) → line_bytes (frame_line f) ≡ some (all_bytes (line_fields f))
+pub frame_spells : (f : Frame) → line_bytes (frame_line f) ≡ Some (all_bytes (line_fields f))
 frame_spells f = rw (line_fields_lem f) (fields_spell (line_fields f))
 
 fields_fit : (f : Frame) → frame_fits f ≡ true → all_of fits (line_fields f) ≡ true
@@ -84,7 +84,7 @@ nth i l = (get_or l i (0, 0)).1
 -- fields that are a frame's are read as that frame
 abbrev Reads : Frame → Type 0
 Reads f =
-    (get : ℕ → ℕ → ℕ) → valued get 0 (widths (line_fields f)) ≡ line_fields f → frame_from get (total (widths (line_fields f))) ≡ some f
+    (get : ℕ → ℕ → ℕ) → valued get 0 (widths (line_fields f)) ≡ line_fields f → frame_from get (total (widths (line_fields f))) ≡ Some f
 
 below : (k v : ℕ) (fs : List Field) → all_of fits ((k, v) ∷ fs) ≡ true → v < 256 ^ k
 below k v fs h = ltb-true _ _ ((and-eq-true_iff (fits (k, v)) (all_of fits fs)).0 h).0
@@ -136,7 +136,7 @@ reads (Frame.Excepted m) h = reads_excepted m
 reads (Frame.End n) h = reads_end n
 
 -- a frame whose fields fit, written and read
-pub written_is_read : (f : Frame) → frame_fits f ≡ true → line_frame (frame_line f) ≡ some f
+pub written_is_read : (f : Frame) → frame_fits f ≡ true → line_frame (frame_line f) ≡ Some f
 unfolding line_frame bytes_frame
 written_is_read f h =
     let fs = line_fields f in
@@ -145,14 +145,14 @@ written_is_read f h =
 
 -- one kind after the other: this one, or one of those after it
 chosen : {G : Type 0} (t : Bool) (x f : Frame) (o : Option Frame)
-    → cond t (some x) o ≡ some f → (t ≡ true → x ≡ f → G) → (o ≡ some f → G) → G
+    → cond t (Some x) o ≡ Some f → (t ≡ true → x ≡ f → G) → (o ≡ Some f → G) → G
 chosen true x f o e a b = a refl (cc)
 chosen false x f o e a b = b e
 
-not_none : {G : Type 0} (f : Frame) → none ≡ some f → G
+not_none : {G : Type 0} (f : Frame) → None ≡ Some f → G
 not_none f e = let z : ◌≡◌ {A = ℕ} 0 1 = cc in absurd (omega arith)
 
-module _ (line bytes : List ℕ) (e : line_bytes line ≡ some bytes) where
+module _ (line bytes : List ℕ) (e : line_bytes line ≡ Some bytes) where
   -- the kind and the length that a test found
   kind_of : (k n : ℕ) → (eqb (field bytes 0 1) k && eqb (length bytes) n) ≡ true → field bytes 0 1 ≡ k
   kind_of k n t = eqb-true _ _ ((and-eq-true_iff (eqb (field bytes 0 1) k) (eqb (length bytes) n)).0 t).0
@@ -205,7 +205,7 @@ module _ (line bytes : List ℕ) (e : line_bytes line ≡ some bytes) where
   unfolding frame_line
   is_end_lem t = by_widths 255 2 (1 ∷ []) refl t
 
-  bytes_line : (f : Frame) → bytes_frame bytes ≡ some f → frame_line f ≡ line
+  bytes_line : (f : Frame) → bytes_frame bytes ≡ Some f → frame_line f ≡ line
   unfolding bytes_frame frame_from
   bytes_line f h =
       let is : (x : Frame) → x ≡ f → frame_line x ≡ line → frame_line f ≡ line = λ x p q. rw p at q in
@@ -218,11 +218,11 @@ module _ (line bytes : List ℕ) (e : line_bytes line ≡ some bytes) where
       (λ h. chosen _ _ f _ h (λ t x. is _ x (is_end_lem t)) (not_none f)))))))
 
 any_bytes : (line : List ℕ) (f : Frame) (o : Option (List ℕ)) → line_bytes line ≡ o
-    → elim o [ none ↦ none | some bytes ↦ bytes_frame bytes ] ≡ some f → frame_line f ≡ line
-any_bytes line f none e h = not_none f h
-any_bytes line f (some bytes) e h = bytes_line line bytes e f h
+    → elim o [ None ↦ None | Some bytes ↦ bytes_frame bytes ] ≡ Some f → frame_line f ≡ line
+any_bytes line f None e h = not_none f h
+any_bytes line f (Some bytes) e h = bytes_line line bytes e f h
 
 -- a line that is read as a frame is that frame's line
-pub read_is_written : (line : List ℕ) (f : Frame) → line_frame line ≡ some f → frame_line f ≡ line
+pub read_is_written : (line : List ℕ) (f : Frame) → line_frame line ≡ Some f → frame_line f ≡ line
 unfolding line_frame
 read_is_written line f h = any_bytes line f (line_bytes line) refl h

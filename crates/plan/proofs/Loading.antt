@@ -1,7 +1,7 @@
 -- A plan's text and its frames belong to each other: what is taken is the text of its frames, and the text of allowed frames is taken.
+use Rattle.std.specs.Prelude.{Option, None, Some}
 use mathlib.Core.Bool.{Bool, true, false, cond, not, ◌&&◌}
 use mathlib.Core.List.{List, [], ◌∷◌, ◌++◌, map}
-use mathlib.Core.Option.{Option, none, some}
 use mathlib.Core.Path.{◌≡◌, refl, sym, ap, subst, ◌∙◌}
 use Prim.Native.Nat.{ℕ, suc, ◌+◌, ◌%◌, ◌<◌, ◌≤◌}
 use native.Mathlib.Nat.{add-zero}
@@ -53,45 +53,45 @@ plan_joined (f ∷ fs) = rw (plan_joined fs)
 
 -- what a line that is allowed says
 pub record Allows (n : ℕ) (before : Before) (line : List ℕ) (f : Frame) (after : Before) : Type 0 where
-  pub frame : line_frame line ≡ some f
-  pub placed : place before f ≡ some after
+  pub frame : line_frame line ≡ Some f
+  pub placed : place before f ≡ Some after
   pub good : frame_good f ≡ true
   pub number : number_good n f ≡ true
 
 abbrev on_place : ℕ → Frame → Option Before → Option (Frame × Before)
-on_place n f o = elim o [ none ↦ none | some after ↦ cond (frame_good f && number_good n f) (some (f, after)) none ]
+on_place n f o = elim o [ None ↦ None | Some after ↦ cond (frame_good f && number_good n f) (Some (f, after)) None ]
 
 abbrev on_frame : ℕ → Before → Option Frame → Option (Frame × Before)
-on_frame n before o = elim o [ none ↦ none | some f ↦ on_place n f (place before f) ]
+on_frame n before o = elim o [ None ↦ None | Some f ↦ on_place n f (place before f) ]
 
 allowed_line : (n : ℕ) (before : Before) (line : List ℕ) (f : Frame) (after : Before) → Allows n before line f after
-    → allowed n before line ≡ some (f, after)
+    → allowed n before line ≡ Some (f, after)
 unfolding allowed
 allowed_line n before line f after a =
     ap (on_frame n before) a.frame ∙ (ap (on_place n f) a.placed ∙ rw (a.good, a.number))
 
-nothing : {A : Type 0} (r : Frame × Before) → none ≡ some r → A
+nothing : {A : Type 0} (r : Frame × Before) → None ≡ Some r → A
 nothing r e = let z : ◌≡◌ {A = ℕ} 0 1 = cc in absurd (omega arith)
 
 module _ (n : ℕ) (before : Before) (line : List ℕ) (r : Frame × Before) where
-  by_test : (f : Frame) (after : Before) (t : Bool) → line_frame line ≡ some f → place before f ≡ some after
-      → (frame_good f && number_good n f) ≡ t → cond t (some (f, after)) none ≡ some r → Allows n before line r.0 r.1
+  by_test : (f : Frame) (after : Before) (t : Bool) → line_frame line ≡ Some f → place before f ≡ Some after
+      → (frame_good f && number_good n f) ≡ t → cond t (Some (f, after)) None ≡ Some r → Allows n before line r.0 r.1
   by_test f after true e p g h =
       let s : (f, after) ≡ r = cc in
       subst (λ (q : Frame × Before). Allows n before line q.0 q.1) s
       (record { frame = e; placed = p; good = (both_true (frame_good f) _ g).0; number = (both_true (frame_good f) _ g).1 })
   by_test f after false e p g h = nothing r h
 
-  by_place : (f : Frame) (o : Option Before) → line_frame line ≡ some f → place before f ≡ o → on_place n f o ≡ some r
+  by_place : (f : Frame) (o : Option Before) → line_frame line ≡ Some f → place before f ≡ o → on_place n f o ≡ Some r
       → Allows n before line r.0 r.1
-  by_place f none e p h = nothing r h
-  by_place f (some after) e p h = by_test f after (frame_good f && number_good n f) e p refl h
+  by_place f None e p h = nothing r h
+  by_place f (Some after) e p h = by_test f after (frame_good f && number_good n f) e p refl h
 
-  by_frame : (o : Option Frame) → line_frame line ≡ o → on_frame n before o ≡ some r → Allows n before line r.0 r.1
-  by_frame none e h = nothing r h
-  by_frame (some f) e h = by_place f (place before f) e refl h
+  by_frame : (o : Option Frame) → line_frame line ≡ o → on_frame n before o ≡ Some r → Allows n before line r.0 r.1
+  by_frame None e h = nothing r h
+  by_frame (Some f) e h = by_place f (place before f) e refl h
 
-  pub line_allowed : allowed n before line ≡ some r → Allows n before line r.0 r.1
+  pub line_allowed : allowed n before line ≡ Some r → Allows n before line r.0 r.1
   unfolding allowed
   line_allowed h = by_frame (line_frame line) refl h
 
@@ -107,7 +107,7 @@ on_end n r more tail t =
     ]
 
 abbrev pub on_allowed : ℕ → List (List ℕ) → List ℕ → Option (Frame × Before) → Loaded
-on_allowed n more tail o = elim o [ none ↦ refused (n + 1) | some r ↦ on_end n r more tail (is_end r.0) ]
+on_allowed n more tail o = elim o [ None ↦ refused (n + 1) | Some r ↦ on_end n r more tail (is_end r.0) ]
 
 module _ (n : ℕ) (before : Before) (line : List ℕ) (f : Frame) (after : Before) (a : Allows n before line f after) where
   line_more : (more : List (List ℕ)) (tail : List ℕ) (fs : List Frame) → is_end f ≡ false → load_from (n + 1) after more tail ≡ taken fs
@@ -137,22 +137,22 @@ abbrev pub with_end : ℕ → List Frame → List Frame
 with_end n fs = fs ++ (Frame.End (n + length fs) ∷ [])
 
 end_allows : (n : ℕ) (before : Before) (o : Option Before) → n ≤ 64 → place before (Frame.End n) ≡ o
-    → elim o [ none ↦ false | some after ↦ true ] ≡ true → load_from n before (frame_line (Frame.End n) ∷ []) [] ≡ taken []
+    → elim o [ None ↦ false | Some after ↦ true ] ≡ true → load_from n before (frame_line (Frame.End n) ∷ []) [] ≡ taken []
 unfolding frame_good number_good
-end_allows n before none l p h = let z : ◌≡◌ {A = ℕ} 0 1 = cc in absurd (omega arith)
-end_allows n before (some after) l p h =
+end_allows n before None l p h = let z : ◌≡◌ {A = ℕ} 0 1 = cc in absurd (omega arith)
+end_allows n before (Some after) l p h =
     line_last n before (frame_line (Frame.End n)) (Frame.End n) after
     (record { frame = written_is_read (Frame.End n) (end_fits n l); placed = p; good = refl; number = eq-eqb n n refl })
     refl
 
 -- every frame that a plan may have, written and read
-pub good_is_read : (f : Frame) → frame_good f ≡ true → is_end f ≡ false → line_frame (frame_line f) ≡ some f
+pub good_is_read : (f : Frame) → frame_good f ≡ true → is_end f ≡ false → line_frame (frame_line f) ≡ Some f
 good_is_read f h e = written_is_read f (good_fits f h e)
 
 -- the first of several frames, and the others
 record First (n : ℕ) (before : Before) (f : Frame) (fs : List Frame) : Type 0 where
   after : Before
-  placed : place before f ≡ some after
+  placed : place before f ≡ Some after
   before_end : is_end f ≡ false
   good : frame_good f ≡ true
   number : number_good n f ≡ true
@@ -160,12 +160,12 @@ record First (n : ℕ) (before : Before) (f : Frame) (fs : List Frame) : Type 0 
 
 abbrev on_first : ℕ → Frame → List Frame → Option Before → Bool
 on_first n f fs o =
-    elim o [ none ↦ false | some after ↦ not (is_end f) && (frame_good f && (number_good n f && allowed_from (n + 1) after fs)) ]
+    elim o [ None ↦ false | Some after ↦ not (is_end f) && (frame_good f && (number_good n f && allowed_from (n + 1) after fs)) ]
 
 by_first : (n : ℕ) (before : Before) (f : Frame) (fs : List Frame) (o : Option Before) → place before f ≡ o
     → on_first n f fs o ≡ true → First n before f fs
-by_first n before f fs none p h = let z : ◌≡◌ {A = ℕ} 0 1 = cc in absurd (omega arith)
-by_first n before f fs (some after) p h =
+by_first n before f fs None p h = let z : ◌≡◌ {A = ℕ} 0 1 = cc in absurd (omega arith)
+by_first n before f fs (Some after) p h =
     let h1 = (both_true (not (is_end f)) _ h).1 in
     let h2 = (both_true (frame_good f) _ h1).1 in
     record {
@@ -230,9 +230,9 @@ ended n (Frame.Extra m) e h = let z : ◌≡◌ {A = ℕ} 0 1 = cc in absurd (om
 ended n (Frame.Excepted m) e h = let z : ◌≡◌ {A = ℕ} 0 1 = cc in absurd (omega arith)
 ended n (Frame.End k) e h = ap Frame.End (eqb-true k n h)
 
-end_placed : (n : ℕ) (before after : Before) → place before (Frame.End n) ≡ some after → allowed_from n before [] ≡ true
+end_placed : (n : ℕ) (before after : Before) → place before (Frame.End n) ≡ Some after → allowed_from n before [] ≡ true
 unfolding allowed_from
-end_placed n before after p = ap (λ (o : Option Before). elim o [ none ↦ false | some a ↦ true ]) p
+end_placed n before after p = ap (λ (o : Option Before). elim o [ None ↦ false | Some a ↦ true ]) p
 
 -- the end frame's line is the last
 at_end : (n : ℕ) (before : Before) (line : List ℕ) (more : List (List ℕ)) (tail : List ℕ) (f : Frame) (after : Before) (fs : List Frame) (t : Bool)
@@ -275,8 +275,8 @@ module _ (n : ℕ) (before : Before) (line : List ℕ) (more : List (List ℕ)) 
   by_allowed : (o : Option (Frame × Before)) → allowed n before line ≡ o → on_allowed n more tail o ≡ taken fs
       → ((after : Before) (gs : List Frame) → load_from (n + 1) after more tail ≡ taken gs → Plan (n + 1) after more tail gs)
       → Plan n before (line ∷ more) tail fs
-  by_allowed none e h rest = no_plan (n + 1) fs h
-  by_allowed (some r) e h rest =
+  by_allowed None e h rest = no_plan (n + 1) fs h
+  by_allowed (Some r) e h rest =
       by_end r.0 r.1 (is_end r.0) (line_allowed n before line r e) refl h (rest r.1)
 
 plan_from : (whole : List (List ℕ)) (n : ℕ) (before : Before) (tail : List ℕ) (fs : List Frame) → load_from n before whole tail ≡ taken fs

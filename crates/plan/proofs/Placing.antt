@@ -1,10 +1,11 @@
 -- A frame's line put number by number.
 use mathlib.Core.List.{List, [], ◌∷◌, ◌++◌, append_assoc}
 use mathlib.Core.Path.{◌≡◌, refl, sym, ap, ◌∙◌}
-use Prim.Native.Nat.{ℕ, suc, ◌+◌, ◌-◌, ◌*◌, ◌%◌, ◌<◌, ◌≤◌}
-use native.Mathlib.Nat.{mod-add-mod}
+use Prim.Native.Nat.{ℕ, zero, suc, ◌+◌, ◌-◌, ◌*◌, ◌%◌, ◌^◌, ◌<◌, ◌≤◌}
+use native.Mathlib.Nat.{mod-add-mod, pow-le-pow_right}
 use native.Mathlib.Numerals.{add-one}
 use native.Mathlib.Omega.{arith}
+use lib.Pow.{pow-add}
 use lib.ListN.{length, get_or, set, length-append}
 use Rattle.frames.specs.Kinds.{row_numbers}
 use Rattle.hex_lines.proofs.Fields.{hexes, widths, total}
@@ -15,15 +16,24 @@ use Rattle.plan.specs.Rows.{row_of}
 use Rattle.plan.specs.Text.{moved, moved_frame, frame_line, whole_line, plan_text}
 use Rattle.plan.specs.declared.Frame.{Frame}
 
--- two's complement of a number of any size
-pub moved_by_two : (v : ℕ) → (v % 65536 + 64096) % 65536 ≡ moved 2 v
-unfolding moved
-moved_by_two v = mod-add-mod v 65536 64096 ∙ ap (λ (n : ℕ). n % 65536) {x = v + 64096} {y = v + 65536 - 1440} (omega arith)
+-- how many numbers so many bytes write
+pub bytes_bits : (k : ℕ) → 2 ^ (8 * k) ≡ 256 ^ k
+bytes_bits zero = refl
+bytes_bits (suc k) = let e : 8 * suc k ≡ 8 * k + 8 = omega arith in rw (e, pow-add 2 (8 * k) 8, bytes_bits k) (omega arith)
 
-pub moved_by_four : (v : ℕ) → (v % 4294967296 + 4294965856) % 4294967296 ≡ moved 4 v
+pub numbers_least : (k : ℕ) → 2 ≤ k → 65536 ≤ 256 ^ k
+numbers_least k h = pow-le-pow_right {n = 256} (omega arith) h
+
+pub numbers_most : (k : ℕ) → k ≤ 7 → 256 ^ k ≤ 256 ^ 7
+numbers_most k h = pow-le-pow_right {n = 256} (omega arith) h
+
+-- two's complement of a number of any size
+pub moved_by : (v k : ℕ) → 2 ≤ k → (v % 256 ^ k + (256 ^ k - 1440)) % 256 ^ k ≡ moved k v
 unfolding moved
-moved_by_four v =
-    mod-add-mod v 4294967296 4294965856 ∙ ap (λ (n : ℕ). n % 4294967296) {x = v + 4294965856} {y = v + 4294967296 - 1440} (omega arith)
+moved_by v k h =
+    let n = 256 ^ k in
+    let least : 65536 ≤ 256 ^ k = numbers_least k h in
+    mod-add-mod v n (n - 1440) ∙ ap (λ (m : ℕ). m % n) {x = v + (n - 1440)} {y = v + n - 1440} (omega arith)
 
 -- the numbers of a frame's line
 abbrev pub frame_pairs : Frame → List Field

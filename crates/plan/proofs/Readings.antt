@@ -1,8 +1,8 @@
 -- A line read digit by digit is the line read by its bytes.
+use Rattle.std.specs.Prelude.{Option, None, Some}
 use mathlib.Core.Bool.{Bool, true, false, cond, ◌&&◌, and-eq-true_iff}
 use mathlib.Core.List.{List, [], ◌∷◌}
-use mathlib.Core.Option.{Option, none, some}
-use mathlib.Core.Path.{◌≡◌, refl, sym, ap, ◌∙◌}
+use mathlib.Core.Path.{◌≡◌, refl, sym, ◌∙◌}
 use Prim.Native.Nat.{ℕ, ◌+◌, ◌/◌, ◌≤◌}
 use native.Mathlib.Omega.{arith}
 use borrow.Author.Tests.{eqb-true}
@@ -11,10 +11,9 @@ use lib.ListN.{length}
 use Rattle.hex_lines.proofs.Numbers.{two_digits, number_is_field, number_outside}
 use Rattle.hex_lines.proofs.Spelt.{is_some, spells_some}
 use Rattle.hex_lines.specs.Hex.{line_bytes, spells, bytes_number, field, number_at}
-use Rattle.plan.specs.Read.{line_of, line_read}
+use Rattle.plan.specs.Read.{line_read}
 use Rattle.plan.specs.Text.{cron_from, rule_from, frame_from, bytes_frame, line_frame}
 use Rattle.plan.specs.declared.Frame.{Frame}
-use Rattle.plan.specs.declared.text.Line.{Line}
 
 either_way : (t : Bool) {x y z w : Option Frame} → (t ≡ true → x ≡ y) → z ≡ w → cond t x z ≡ cond t y w
 either_way true a b = a refl
@@ -52,12 +51,12 @@ module _ (g h : ℕ → ℕ → ℕ) (n : ℕ) (same : (at k : ℕ) → at + k �
       (either_way (is 255 2) (λ t. let s = size 255 2 t in rw (same 1 1 (omega arith) (omega arith))) refl)))))))
 
 -- the empty line has no kind in either reading
-first_byte : (line bytes : List ℕ) → line_bytes line ≡ some bytes → number_at line 0 1 ≡ field bytes 0 1
+first_byte : (line bytes : List ℕ) → line_bytes line ≡ Some bytes → number_at line 0 1 ≡ field bytes 0 1
 unfolding bytes_number
 first_byte line [] e = sym (number_outside line 0 1 (omega (arith, two_digits line [] e)))
 first_byte line (b ∷ bytes) e = number_is_field line (b ∷ bytes) e 0 1 (omega arith) (omega arith)
 
-by_digits : (line bytes : List ℕ) → line_bytes line ≡ some bytes → frame_from (number_at line) (length line / 2) ≡ line_frame line
+by_digits : (line bytes : List ℕ) → line_bytes line ≡ Some bytes → frame_from (number_at line) (length line / 2) ≡ line_frame line
 unfolding line_frame bytes_frame
 by_digits line bytes e =
     let n : length line / 2 ≡ length bytes = omega (arith, two_digits line bytes e) in
@@ -66,20 +65,20 @@ by_digits line bytes e =
 
 any_line : (line : List ℕ) (o : Option (List ℕ)) → line_bytes line ≡ o → is_some o ≡ true
     → frame_from (number_at line) (length line / 2) ≡ line_frame line
-any_line line none e h = let z : ◌≡◌ {A = ℕ} 0 1 = cc in absurd (omega arith)
-any_line line (some bytes) e h = by_digits line bytes e
+any_line line None e h = let z : ◌≡◌ {A = ℕ} 0 1 = cc in absurd (omega arith)
+any_line line (Some bytes) e h = by_digits line bytes e
 
 -- a line of digits
-pub read_digits : (line : List ℕ) → spells line ≡ true → line_of (frame_from (number_at line) (length line / 2)) ≡ line_read line
+pub read_digits : (line : List ℕ) → spells line ≡ true → frame_from (number_at line) (length line / 2) ≡ line_read line
 unfolding line_read
-read_digits line h = ap line_of (any_line line (line_bytes line) refl (sym (spells_some line) ∙ h))
+read_digits line h = any_line line (line_bytes line) refl (sym (spells_some line) ∙ h)
 
 -- any other
-no_line : (line : List ℕ) (o : Option (List ℕ)) → line_bytes line ≡ o → is_some o ≡ false → line_frame line ≡ none
+no_line : (line : List ℕ) (o : Option (List ℕ)) → line_bytes line ≡ o → is_some o ≡ false → line_frame line ≡ None
 unfolding line_frame
-no_line line none e h = rw (e, line_frame)
-no_line line (some bytes) e h = let z : ◌≡◌ {A = ℕ} 0 1 = cc in absurd (omega arith)
+no_line line None e h = rw (e, line_frame)
+no_line line (Some bytes) e h = let z : ◌≡◌ {A = ℕ} 0 1 = cc in absurd (omega arith)
 
-pub read_other : (line : List ℕ) → spells line ≡ false → line_read line ≡ Line.Not
+pub read_other : (line : List ℕ) → spells line ≡ false → line_read line ≡ None
 unfolding line_read
-read_other line h = ap line_of (no_line line (line_bytes line) refl (sym (spells_some line) ∙ h))
+read_other line h = no_line line (line_bytes line) refl (sym (spells_some line) ∙ h)

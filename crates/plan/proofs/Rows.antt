@@ -7,8 +7,6 @@ use Rattle.calendar.proofs.Every.{same_either_way}
 use Rattle.calendar.specs.Below.{any_of}
 use Rattle.held.specs.Lists.{any_held, any_excepts, list_held, frame_excepts as excepts_row}
 use Rattle.held.specs.Minutes.{frame_held}
-use Rattle.frames.specs.declared.Cron.{Cron}
-use Rattle.frames.specs.declared.Rule.{Rule}
 use Rattle.zone.specs.Zone.{in_window}
 use Rattle.plan.specs.Plan.{frame_holds, frame_excepts, plan_held}
 use Rattle.plan.specs.Rows.{row_of, frame_in}

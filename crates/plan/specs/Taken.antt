@@ -1,6 +1,5 @@
 -- "A plan is taken exactly if", condition by condition.
-use Rattle.std.specs.Prelude.{Bool, true, false, cond, not, ◌&&◌, ◌||◌, List, [], ◌∷◌, ℕ, suc, ◌+◌, ◌-◌, ◌%◌, ◌^◌, leb, ltb, eqb, length}
-use Rattle.std.proofs.Math.Option.{Option, none, some}
+use Rattle.std.specs.Prelude.{Bool, true, false, cond, not, ◌&&◌, ◌||◌, List, [], ◌∷◌, ℕ, suc, ◌+◌, ◌-◌, ◌%◌, ◌^◌, leb, ltb, eqb, length, Option, None, Some}
 use Rattle.calendar.specs.Below.{within}
 use Rattle.frames.specs.Rule.{no_limit, ordinal_mask, rule_occurs}
 use Rattle.frames.specs.declared.Cron.{Cron}
@@ -90,27 +89,27 @@ pub data Before : Type 0 where
 
 -- "01 first, then up to 32 of 02 under the zone limits, then others": `low` is the least instant that the next transition may have
 unfoldable pub place : Before → Frame → Option Before
-place start (Frame.Offset o) = some (zoned 0 0 o)
-place start (Frame.Change t) = none
-place start (Frame.Cron f) = none
-place start (Frame.Rule f) = none
-place start (Frame.Extra m) = none
-place start (Frame.Excepted m) = none
-place start (Frame.End n) = none
-place (zoned k low offset) (Frame.Offset o) = none
-place (zoned k low offset) (Frame.Change t) = cond (ltb k most_changes && under_limits low offset t) (some (zoned (suc k) (t.at + distance) t.offset)) none
-place (zoned k low offset) (Frame.Cron f) = some lines
-place (zoned k low offset) (Frame.Rule f) = some lines
-place (zoned k low offset) (Frame.Extra m) = some lines
-place (zoned k low offset) (Frame.Excepted m) = some lines
-place (zoned k low offset) (Frame.End n) = some lines
-place lines (Frame.Offset o) = none
-place lines (Frame.Change t) = none
-place lines (Frame.Cron f) = some lines
-place lines (Frame.Rule f) = some lines
-place lines (Frame.Extra m) = some lines
-place lines (Frame.Excepted m) = some lines
-place lines (Frame.End n) = some lines
+place start (Frame.Offset o) = Some (zoned 0 0 o)
+place start (Frame.Change t) = None
+place start (Frame.Cron f) = None
+place start (Frame.Rule f) = None
+place start (Frame.Extra m) = None
+place start (Frame.Excepted m) = None
+place start (Frame.End n) = None
+place (zoned k low offset) (Frame.Offset o) = None
+place (zoned k low offset) (Frame.Change t) = cond (ltb k most_changes && under_limits low offset t) (Some (zoned (suc k) (t.at + distance) t.offset)) None
+place (zoned k low offset) (Frame.Cron f) = Some lines
+place (zoned k low offset) (Frame.Rule f) = Some lines
+place (zoned k low offset) (Frame.Extra m) = Some lines
+place (zoned k low offset) (Frame.Excepted m) = Some lines
+place (zoned k low offset) (Frame.End n) = Some lines
+place lines (Frame.Offset o) = None
+place lines (Frame.Change t) = None
+place lines (Frame.Cron f) = Some lines
+place lines (Frame.Rule f) = Some lines
+place lines (Frame.Extra m) = Some lines
+place lines (Frame.Excepted m) = Some lines
+place lines (Frame.End n) = Some lines
 
 -- "at most 64 before the end frame, its number right": n frames stand before
 unfoldable pub number_good : ℕ → Frame → Bool
@@ -135,8 +134,8 @@ is_end (Frame.End n) = true
 unfoldable pub allowed : ℕ → Before → List ℕ → Option (Frame × Before)
 allowed n before line =
     elim (line_frame line) [
-      | none ↦ none
-      | some f ↦ elim (place before f) [ none ↦ none | some after ↦ cond (frame_good f && number_good n f) (some (f, after)) none ]
+      | None ↦ None
+      | Some f ↦ elim (place before f) [ None ↦ None | Some after ↦ cond (frame_good f && number_good n f) (Some (f, after)) None ]
     ]
 
 -- what a plan is found to be: its frames up to the end frame, or 10 with the number of a line
@@ -150,8 +149,8 @@ unfoldable pub load_from : ℕ → Before → List (List ℕ) → List ℕ → L
 load_from n before [] tail = refused (n + 1)
 load_from n before (line ∷ more) tail =
     elim (allowed n before line) [
-      | none ↦ refused (n + 1)
-      | some r ↦ elim (is_end r.0) [
+      | None ↦ refused (n + 1)
+      | Some r ↦ elim (is_end r.0) [
         | true ↦ cond (eqb (length more) 0 && eqb (length tail) 0) (taken []) (refused (n + 2))
         | false ↦ elim (load_from (n + 1) r.1 more tail) [ taken fs ↦ taken (r.0 ∷ fs) | refused k ↦ refused k ]
       ]

@@ -1,6 +1,5 @@
 -- "The plan": frames as lines of hex, and lines as frames.
-use Rattle.std.specs.Prelude.{Bool, cond, ◌&&◌, List, [], ◌∷◌, ◌++◌, ℕ, ◌+◌, ◌-◌, ◌%◌, ◌^◌, eqb, length}
-use Rattle.std.proofs.Math.Option.{Option, none, some}
+use Rattle.std.specs.Prelude.{Bool, cond, ◌&&◌, List, [], ◌∷◌, ◌++◌, ℕ, ◌+◌, ◌-◌, ◌%◌, ◌^◌, eqb, length, Option, None, Some}
 use Rattle.frames.specs.declared.Cron.{Cron}
 use Rattle.frames.specs.declared.Ends.{Ends}
 use Rattle.frames.specs.declared.Rule.{Rule}
@@ -89,15 +88,15 @@ rule_from get =
 unfoldable pub frame_from : (ℕ → ℕ → ℕ) → ℕ → Option Frame
 frame_from get n =
     let is : ℕ → ℕ → Bool = λ kind size. eqb (get 0 1) kind && eqb n size in
-    cond (is offset_kind 3) (some (Frame.Offset (moved_up get 1 2)))
-    (cond (is change_kind 7) (some (Frame.Change (change_from get)))
-    (cond (is cron_kind 21) (some (Frame.Cron (cron_from get)))
-    (cond (is rule_kind 41) (some (Frame.Rule (rule_from get)))
-    (cond (is extra_kind 5) (some (Frame.Extra (get 1 4)))
-    (cond (is excepted_kind 5) (some (Frame.Excepted (get 1 4))) (cond (is end_kind 2) (some (Frame.End (get 1 1))) none))))))
+    cond (is offset_kind 3) (Some (Frame.Offset (moved_up get 1 2)))
+    (cond (is change_kind 7) (Some (Frame.Change (change_from get)))
+    (cond (is cron_kind 21) (Some (Frame.Cron (cron_from get)))
+    (cond (is rule_kind 41) (Some (Frame.Rule (rule_from get)))
+    (cond (is extra_kind 5) (Some (Frame.Extra (get 1 4)))
+    (cond (is excepted_kind 5) (Some (Frame.Excepted (get 1 4))) (cond (is end_kind 2) (Some (Frame.End (get 1 1))) None))))))
 
 unfoldable pub bytes_frame : List ℕ → Option Frame
 bytes_frame b = frame_from (field b) (length b)
 
 unfoldable pub line_frame : List ℕ → Option Frame
-line_frame line = elim (line_bytes line) [ none ↦ none | some bytes ↦ bytes_frame bytes ]
+line_frame line = elim (line_bytes line) [ None ↦ None | Some bytes ↦ bytes_frame bytes ]

@@ -1,36 +1,24 @@
 // A plan's lines as frames, and frames as rows of numbers.
 ghost use Rattle.std.specs.Prelude.{◌≡◌, [], ◌∷◌, ◌+◌, ◌/◌, ◌≤◌, length};
 ghost use Rattle.hex_lines.specs.Hex.{number_at, put_at, past_put};
-ghost use Rattle.plan.specs.Read.{line_of, line_read};
+ghost use Rattle.plan.specs.Read.{line_read};
 ghost use Rattle.plan.specs.Rows.{as_row, row_of, frame_in};
 ghost use Rattle.plan.specs.Text.{whole_line, moved_up, change_from, cron_from, ends_from, rule_from, frame_from};
 
 use crate::{Frame, puts};
 use frames::places::Row;
-use frames::truth::both;
 use frames::{Cron, Ends, Rule, kinds, numbers, places};
 use zone::Transition;
 
-// What a line is read as.
-#[derive(Clone, Copy)]
-pub enum Line {
-    Is(Frame),
-    Not,
-}
-
-// Two's complement, moved up by a day.
-fn offset_at(line: &[u8], at: usize) -> u64
-    ensures { result ≡ moved_up (number_at line.now) at 2 }
+// A number of so many bytes in two's complement, moved up by a day.
+fn moved_up(line: &[u8], at: usize, bytes: usize) -> u64
+    requires { bytes ≤ 7 }
+    ensures { result ≡ moved_up (number_at line.now) at bytes }
 {
-    (hex_lines::number(line, at, 2) + zone::BIAS) % puts::TWO_BYTES
+    (hex_lines::number(line, at, bytes) + zone::BIAS) % puts::numbers_of(bytes)
 }
 
-fn instant_at(line: &[u8], at: usize) -> u64
-    ensures { result ≡ moved_up (number_at line.now) at 4 }
-{
-    (hex_lines::number(line, at, 4) + zone::BIAS) % puts::FOUR_BYTES
-}
-
+#[tactic(auto, unfolding(crate::specs::Text::cron_from))]
 fn cron_of(line: &[u8]) -> Cron
     ensures { result ≡ cron_from (number_at line.now) }
 {
@@ -54,6 +42,7 @@ fn ends_at(line: &[u8], at: usize, k: usize) -> Ends
     }
 }
 
+#[tactic(auto, unfolding(crate::specs::Text::rule_from))]
 fn rule_of(line: &[u8]) -> Rule
     ensures { result ≡ rule_from (number_at line.now) }
 {
@@ -74,49 +63,37 @@ fn change_of(line: &[u8]) -> Transition
     ensures { result ≡ change_from (number_at line.now) }
 {
     Transition {
-        at: instant_at(line, 1),
-        offset: offset_at(line, 5),
+        at: moved_up(line, 1, 4),
+        offset: moved_up(line, 5, 2),
     }
 }
 
 // The frame of a line of digits, by its kind and its number of bytes.
-fn frame_of(line: &[u8]) -> Line
-    ensures { result ≡ line_of (frame_from (number_at line.now) (length line.now / 2)) }
+#[tactic(auto, unfolding(crate::specs::Text::frame_from))]
+fn frame_of(line: &[u8]) -> Option<Frame>
+    ensures { result ≡ frame_from (number_at line.now) (length line.now / 2) }
 {
-    let kind = hex_lines::number(line, 0, 1);
-    let n = line.len() / 2;
-    if both(kind == kinds::OFFSET, n == 3) {
-        return Line::Is(Frame::Offset(offset_at(line, 1)));
+    match (hex_lines::number(line, 0, 1), line.len() / 2) {
+        (kinds::OFFSET, 3) => Some(Frame::Offset(moved_up(line, 1, 2))),
+        (kinds::CHANGE, 7) => Some(Frame::Change(change_of(line))),
+        (kinds::CRON, 21) => Some(Frame::Cron(cron_of(line))),
+        (kinds::RULE, 41) => Some(Frame::Rule(rule_of(line))),
+        (kinds::EXTRA, 5) => Some(Frame::Extra(hex_lines::number(line, 1, 4))),
+        (kinds::EXCEPTED, 5) => Some(Frame::Excepted(hex_lines::number(line, 1, 4))),
+        (kinds::END, 2) => Some(Frame::End(hex_lines::number(line, 1, 1))),
+        _ => None,
     }
-    if both(kind == kinds::CHANGE, n == 7) {
-        return Line::Is(Frame::Change(change_of(line)));
-    }
-    if both(kind == kinds::CRON, n == 21) {
-        return Line::Is(Frame::Cron(cron_of(line)));
-    }
-    if both(kind == kinds::RULE, n == 41) {
-        return Line::Is(Frame::Rule(rule_of(line)));
-    }
-    if both(kind == kinds::EXTRA, n == 5) {
-        return Line::Is(Frame::Extra(hex_lines::number(line, 1, 4)));
-    }
-    if both(kind == kinds::EXCEPTED, n == 5) {
-        return Line::Is(Frame::Excepted(hex_lines::number(line, 1, 4)));
-    }
-    if both(kind == kinds::END, n == 2) {
-        return Line::Is(Frame::End(hex_lines::number(line, 1, 1)));
-    }
-    Line::Not
 }
 
 // The frame that a line, without its LF, writes.
-pub fn read(line: &[u8]) -> Line
+pub fn read(line: &[u8]) -> Option<Frame>
     ensures { result ≡ line_read line.now }
 {
     if hex_lines::is_line(line) {
-        return frame_of(line);
+        frame_of(line)
+    } else {
+        None
     }
-    Line::Not
 }
 
 fn short_row(kind: u64, a: u64, b: u64) -> Row
@@ -125,6 +102,7 @@ fn short_row(kind: u64, a: u64, b: u64) -> Row
     [kind, a, b, 0, 0, 0, 0, 0, 0, 0, 0, 0, 0, 0, 0, 0, 0, 0]
 }
 
+#[tactic(auto, unfolding(crate::specs::Rows::row_of))]
 fn cron_row(f: Cron) -> Row
     ensures { result ≡ row_of (Frame.Cron f) }
 {
@@ -150,6 +128,7 @@ fn cron_row(f: Cron) -> Row
     ]
 }
 
+#[tactic(auto, unfolding(crate::specs::Rows::row_of))]
 fn rule_row(f: Rule) -> Row
     ensures { result ≡ row_of (Frame.Rule f) }
 {
@@ -178,7 +157,8 @@ fn rule_row(f: Rule) -> Row
     ]
 }
 
-// A frame as the row of numbers that the search holds.
+// A frame as the row of numbers that the search holds. A function with a promise of its own, as its way back: a `From` beside it would say the same.
+#[tactic(auto, unfolding(crate::specs::Rows::row_of))]
 pub fn row_of(frame: Frame) -> Row
     ensures { result ≡ row_of frame }
 {
@@ -194,6 +174,7 @@ pub fn row_of(frame: Frame) -> Row
 }
 
 // The frame that a row holds.
+#[tactic(auto, unfolding(crate::specs::Rows::frame_in))]
 pub fn frame_in(row: &Row) -> Frame
     ensures { result ≡ frame_in row.now }
 {
@@ -223,10 +204,7 @@ pub fn write(buf: &mut [u8], at: usize, frame: Frame) -> usize
     ensures { (result ≡ past_put buf.old at (whole_line frame)) × (buf.new ≡ put_at buf.old at (whole_line frame)) }
 {
     let n = puts::size_of(frame);
-    if buf.len() <= at {
-        return at;
-    }
-    if buf.len() - at <= n {
+    if buf.len().saturating_sub(at) <= n {
         return at;
     }
     let sizes = puts::widths_of(frame);

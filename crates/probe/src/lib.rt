@@ -10,10 +10,9 @@ ghost use Rattle.days.specs.Search.{nth_day};
 ghost use Rattle.line.specs.Lined.{context_as, lined};
 ghost use Rattle.probe.specs.Probed.{instant_answer, context_of, line_answer, line_buffer};
 
-use frames::places::{Row, Rows};
-use line::{Before, Context, Lined};
+use frames::places::{FRAMES, Row, Rows};
+use line::{Before, Context};
 use plan::text;
-use zone::stretch::Instant;
 use zone::{Zone, stretch};
 
 #[repr(C)]
@@ -23,25 +22,32 @@ pub struct ProbeInstant {
     pub instant: u64,
 }
 
+impl From<Option<u64>> for ProbeInstant {
+    ghost from_gives = { λ found answer. answer ≡ instant_answer found };
+
+    fn from(found: Option<u64>) -> ProbeInstant {
+        match found {
+            Some(instant) => ProbeInstant { number: 0, instant },
+            None => ProbeInstant {
+                number: 5,
+                instant: 0,
+            },
+        }
+    }
+}
+
 #[unsafe(no_mangle)]
 pub extern "C" fn probe_offset_at(zone: Zone, instant: u64) -> u64
     ensures { result ≡ offset_at (offsets_of zone) instant }
 {
-    zone::offset_at(zone, instant)
+    zone::offset_at(&zone, instant)
 }
 
 #[unsafe(no_mangle)]
 pub extern "C" fn probe_instant_of_local(zone: Zone, m: u64) -> ProbeInstant
     ensures { result ≡ instant_answer (stretch_local (offsets_of zone) m) }
 {
-    let found = stretch::instant_of_local(zone, m);
-    let Instant::Is(instant) = found else {
-        return ProbeInstant {
-            number: 5,
-            instant: 0,
-        };
-    };
-    ProbeInstant { number: 0, instant }
+    stretch::instant_of_local(&zone, m).into()
 }
 
 // The least held local minute of frames in a range, or the range's end; of an empty range low.
@@ -49,7 +55,7 @@ pub extern "C" fn probe_instant_of_local(zone: Zone, m: u64) -> ProbeInstant
 pub extern "C" fn probe_list_least(fs: &Rows, count: usize, low: u64, high: u64) -> u64
     ensures { result ≡ list_least (first_of count fs.now) low high }
 {
-    held::lists::list_least(fs, count, low, high)
+    held::lists::list_least(&fs[..count.min(FRAMES)], low, high)
 }
 
 // One more than the greatest held local minute of frames in a range, or the range's start.
@@ -57,7 +63,7 @@ pub extern "C" fn probe_list_least(fs: &Rows, count: usize, low: u64, high: u64)
 pub extern "C" fn probe_list_last(fs: &Rows, count: usize, low: u64, high: u64) -> u64
     ensures { result ≡ list_last (first_of count fs.now) low high }
 {
-    held::lists::list_last(fs, count, low, high)
+    held::lists::list_last(&fs[..count.min(FRAMES)], low, high)
 }
 
 // The day of the count-th occurrence of a rule from a day on, or the first day past 2099.
@@ -75,26 +81,17 @@ pub struct ProbeLine {
     pub length: u64,
 }
 
-// What stands before a line, by numbers: 0 nothing, 1 a Z and so many T, any other number other lines.
+// What stands before a line, by the number that C gives: 0 nothing, 1 a Z and so many T, any other number other lines.
 fn context_of(before: u64, changes: u64, low: u64, offset: u64) -> Context
     ensures { result ≡ context_of before changes low offset }
 {
-    if before == 0 {
-        return Context {
-            before: Before::Start,
-            low,
-            offset,
-        };
-    }
-    if before == 1 {
-        return Context {
-            before: Before::Zoned(changes),
-            low,
-            offset,
-        };
-    }
+    let before = match before {
+        0 => Before::Start,
+        1 => Before::Zoned(changes),
+        _ => Before::Lines,
+    };
     Context {
-        before: Before::Lines,
+        before,
         low,
         offset,
     }
@@ -113,15 +110,14 @@ pub extern "C" fn probe_line(
 ) -> ProbeLine
     ensures { (result ≡ line_answer frame.old (lined (context_as (context_of before changes low offset)) s.now)) × (frame.new ≡ line_buffer frame.old (lined (context_as (context_of before changes low offset)) s.now)) }
 {
-    let found = line::read(s, context_of(before, changes, low, offset));
-    match found {
-        Lined::Is(f) => {
-            let length = text::write(frame, 0, f);
-            ProbeLine {
-                number: 0,
-                length: length as u64,
-            }
-        }
-        Lined::Refused(number) => ProbeLine { number, length: 0 },
+    match line::read(s, context_of(before, changes, low, offset)) {
+        Ok(f) => ProbeLine {
+            number: 0,
+            length: text::write(frame, 0, f) as u64,
+        },
+        Err(refusal) => ProbeLine {
+            number: refusal.number(),
+            length: 0,
+        },
     }
 }

@@ -1,7 +1,7 @@
 -- What is made of the parts of a rule in numbers is what the sheet's rule is: its frame, or the refusal.
+use Rattle.std.specs.Prelude.{Option, None, Some, unwrap_or, Ok, Err}
 use mathlib.Core.Bool.{Bool, true, false, cond, not, ◌&&◌}
 use mathlib.Core.List.{List}
-use mathlib.Core.Option.{Option, none, some, get_or}
 use mathlib.Core.Path.{◌≡◌, refl, ap, ap₂, ◌∙◌}
 use Prim.Native.Nat.{ℕ, ◌-◌, ◌/◌, ◌%◌, ◌<◌}
 use native.Mathlib.Omega.{arith}
@@ -16,7 +16,7 @@ use Rattle.framed.proofs.Goods.{given_passes, written, rule_good_lem}
 use Rattle.framed.specs.Framed.{minute_on, nth_last, last_by, last_of, rule_frame}
 use Rattle.frames.specs.Rule.{rule_day, rule_occurs}
 use Rattle.frames.specs.declared.Rule.{Rule}
-use Rattle.parts.specs.Given.{count_from, until_from, parts_given}
+use Rattle.parts.specs.Given.{until_from, parts_given}
 use Rattle.parts.specs.declared.given.Parts.{Parts}
 use Rattle.sheet.proofs.Times.{minute_in_window}
 use Rattle.sheet.specs.Form.{Time, daily, Part, rule}
@@ -25,22 +25,22 @@ use Rattle.sheet.specs.Parts.{Given, given_of, parts_together}
 use Rattle.sheet.specs.Range.{time_in_range, minute_of, part_in_range, in_range}
 use Rattle.sheet.specs.Refusals.{start_occurs}
 use Rattle.rules.specs.Ruled.{endless, start_held_in, count_last, last_in, ending_at, ruled_from}
-use Rattle.rules.specs.declared.Ruled.{Ruled}
+use Rattle.rules.specs.declared.Unruled.{Unruled}
 use Rattle.rules.proofs.Framing.{endless_is}
 use Rattle.rules.proofs.Going.{together_is}
 use Rattle.rules.proofs.Lasts.{day_with_last}
 
 -- ---- UNTIL, where it is given and in range
 until_after : (o : Option Time) (m : ℕ) → given_passes time_in_range o ≡ true
-    → cond (until_from o).given (leb m (until_from o).number) true ≡ within_until o m
-until_after none m e = refl
-until_after (some t) m e = rw e refl
+    → elim (until_from o) [ None ↦ true | Some u ↦ leb m u ] ≡ within_until o m
+until_after None m e = refl
+until_after (Some t) m e = rw e refl
 
 last_by_lem : (nth : ℕ → ℕ) (end : Option Time) (most : Option ℕ) → given_passes time_in_range end ≡ true
-    → cond (until_from end).given (until_from end).number (cond (count_from most).given (nth (count_from most).number) window_last) ≡ last_by nth end most
-last_by_lem nth none none e = refl
-last_by_lem nth none (some c) e = refl
-last_by_lem nth (some t) most e = rw e refl
+    → elim (until_from end) [ None ↦ elim most [ None ↦ window_last | Some c ↦ nth c ] | Some u ↦ u ] ≡ last_by nth end most
+last_by_lem nth None None e = refl
+last_by_lem nth None (Some c) e = refl
+last_by_lem nth (Some t) most e = rw e refl
 
 -- ---- the frame's days are the rule's
 module _ (t : Time) (ps : List Part) (inside : in_range (rule t ps) ≡ true) (w : written (rule t ps) ≡ true) (go : parts_together ps ≡ true) where
@@ -60,7 +60,7 @@ module _ (t : Time) (ps : List Part) (inside : in_range (rule t ps) ≡ true) (w
   f = endless p start
 
   abbrev day : ℕ → Bool
-  day = occurs_on (get_or g.frequency daily) g first
+  day = occurs_on (unwrap_or g.frequency daily) g first
 
   in_window_lem : start < window_minutes
   unfolding in_range
@@ -86,11 +86,14 @@ module _ (t : Time) (ps : List Part) (inside : in_range (rule t ps) ≡ true) (w
   count_last_is c =
       ap (minute_on start) (nth_same (rule_day f) day c (window_days - first) first (λ j l h. day_in_lem j (omega (arith, in_window_lem))))
 
+  counted : (o : Option ℕ) → ◌≡◌ {A = ℕ} (elim o [ None ↦ window_last | Some c ↦ count_last f c ]) (elim o [ None ↦ window_last | Some c ↦ nth_last day start c ])
+  counted None = refl
+  counted (Some c) = count_last_is c
+
   last_is : last_in p f ≡ last_of g start
   unfolding last_in last_of parts_given
   last_is =
-      ap (λ (l : ℕ). cond (until_from g.until).given (until_from g.until).number (cond (count_from g.count).given l window_last))
-      (count_last_is (count_from g.count).number)
+      ap (λ (o : ℕ). elim (until_from g.until) [ None ↦ o | Some u ↦ u ]) (counted g.count)
       ∙ last_by_lem (nth_last day start) g.until g.count until_good
 
   frame_is : ending_at (last_in p f) f ≡ rule_frame g start
@@ -99,11 +102,11 @@ module _ (t : Time) (ps : List Part) (inside : in_range (rule t ps) ≡ true) (w
 
 module _ (t : Time) (ps : List Part) (inside : in_range (rule t ps) ≡ true) (w : written (rule t ps) ≡ true) where
   pub ruled_is : ruled_from (parts_given ps) (minute_of t)
-      ≡ cond (not (parts_together ps)) Ruled.Apart (cond (not (start_occurs (rule t ps))) Ruled.NoStart (Ruled.Is (rule_frame (given_of ps) (minute_of t))))
+      ≡ cond (not (parts_together ps)) (Err Unruled.Apart) (cond (not (start_occurs (rule t ps))) (Err Unruled.NoStart) (Ok (rule_frame (given_of ps) (minute_of t))))
   unfolding ruled_from
   ruled_is =
       rw (together_is ps)
       (decided (parts_together ps)
       (λ (y : parts_together ps ≡ true).
-      rw y (ap₂ (λ (b : Bool) (r : Rule). cond (not b) Ruled.NoStart (Ruled.Is r)) (start_is t ps inside w y) (frame_is t ps inside w y)))
+      rw y (ap₂ (λ (b : Bool) (r : Rule). cond (not b) (Err Unruled.NoStart) (Ok r)) (start_is t ps inside w y) (frame_is t ps inside w y)))
       (λ (n : parts_together ps ≡ false). rw n refl))

@@ -7,6 +7,7 @@ use frames::Rule;
 use parts::given::Parts;
 use plan::{Frame, text};
 
+#[tactic(auto, using(crate::proofs::Lasts::count_last_by))]
 fn count_last(f: Rule, count: u64) -> u64
     ensures { result ≡ count_last f count }
 {
@@ -18,16 +19,13 @@ fn count_last(f: Rule, count: u64) -> u64
     window::DAY * day + f.start % window::DAY
 }
 
+#[tactic(auto, unfolding(crate::specs::Ruled::last_in))]
 pub(crate) fn last_in(p: Parts, f: Rule) -> u64
     ensures { result ≡ last_in p f }
 {
-    let until = p.until;
-    let count = p.count;
-    if until.given {
-        return until.number;
+    match (p.until, p.count) {
+        (Some(until), _) => until,
+        (None, Some(n)) => count_last(f, n),
+        (None, None) => window::LAST_MINUTE,
     }
-    if count.given {
-        return count_last(f, count.number);
-    }
-    window::LAST_MINUTE
 }

@@ -4,7 +4,6 @@
 ghost use Rattle.std.specs.Prelude.{◌≡◌};
 ghost use Rattle.rules.specs.Ruled.{neither_in, by_frequency_in, together_in, start_held_in, ruled_from};
 
-use frames::truth::both;
 use frames::{Rule, kinds};
 use good::rule::start_held;
 use parts::given::Parts;
@@ -12,12 +11,12 @@ use parts::given::Parts;
 mod frame;
 mod last;
 
-#[derive(Clone, Copy)]
-pub enum Ruled {
-    Is(Rule),
-    // Refusal 6.
+// Why parts make no rule.
+#[derive(Clone, Copy, PartialEq, Eq, Debug)]
+pub enum Unruled {
+    // They don't go together.
     Apart,
-    // Refusal 8.
+    // The start is no occurrence, or after UNTIL.
     NoStart,
 }
 
@@ -25,75 +24,53 @@ pub enum Ruled {
 fn neither(p: Parts) -> bool
     ensures { result ≡ neither_in p }
 {
-    let weekdays = p.weekdays;
-    let days = p.days;
-    both(!weekdays.given, !days.given)
+    p.weekdays.is_none() && p.days.is_none()
 }
 
+#[tactic(auto, unfolding(crate::specs::Ruled::by_frequency_in))]
 fn by_frequency(p: Parts) -> bool
     ensures { result ≡ by_frequency_in p }
 {
-    let weekdays = p.weekdays;
-    let days = p.days;
-    let positions = p.positions;
-    let months = p.months;
-    if p.frequency == kinds::DAILY {
-        return both(!weekdays.ordinal, !positions.given);
+    let ordinal = p.weekdays.is_some_and(|w| w.ordinal);
+    let placed = !(p.positions.is_some() && neither(p));
+    match p.frequency {
+        kinds::DAILY => !ordinal && p.positions.is_none(),
+        kinds::WEEKLY => !ordinal && p.positions.is_none() && p.days.is_none(),
+        kinds::MONTHLY => placed,
+        kinds::YEARLY => !(ordinal && p.months.is_none()) && placed,
+        _ => false,
     }
-    if p.frequency == kinds::WEEKLY {
-        return both(!weekdays.ordinal, both(!positions.given, !days.given));
-    }
-    let placed = !both(positions.given, neither(p));
-    if p.frequency == kinds::MONTHLY {
-        return placed;
-    }
-    if p.frequency == kinds::YEARLY {
-        return both(!both(weekdays.ordinal, !months.given), placed);
-    }
-    false
 }
 
 // Whether the parts go together.
+#[tactic(auto, unfolding(crate::specs::Ruled::together_in))]
 fn together(p: Parts) -> bool
     ensures { result ≡ together_in p }
 {
-    let count = p.count;
-    let until = p.until;
-    if p.twice {
-        return false;
-    }
-    if both(count.given, until.given) {
-        return false;
-    }
-    by_frequency(p)
+    !p.twice && !(p.count.is_some() && p.until.is_some()) && by_frequency(p)
 }
 
 // The start is an occurrence, and not after UNTIL.
+#[tactic(auto, unfolding(crate::specs::Ruled::start_held_in))]
 fn start_held_in(p: Parts, f: Rule) -> bool
     ensures { result ≡ start_held_in p f }
 {
-    let until = p.until;
-    if !start_held(f) {
-        return false;
-    }
-    if until.given {
-        return f.start <= until.number;
-    }
-    true
+    start_held(f) && p.until.is_none_or(|until| f.start <= until)
 }
 
-// The frame of a rule, or which refusal; outside the window no start is an occurrence.
-pub fn rule_of(p: Parts, start: u64) -> Ruled
+// The frame of a rule; outside the window no start is an occurrence.
+#[inline(always)]
+#[tactic(auto, unfolding(crate::specs::Ruled::ruled_from))]
+pub fn rule_of(p: Parts, start: u64) -> Result<Rule, Unruled>
     ensures { result ≡ ruled_from p start }
 {
     if !together(p) {
-        return Ruled::Apart;
+        return Err(Unruled::Apart);
     }
     let f = frame::endless(p, start);
     if !start_held_in(p, f) {
-        return Ruled::NoStart;
+        return Err(Unruled::NoStart);
     }
-    let mut r = f;
-    r.last = last::last_in(p, f);
-    Ruled::Is(r)
+    let last = last::last_in(p, f);
+    Ok(Rule { last, ..f })
 }

@@ -1,6 +1,5 @@
 -- "The sheet": the written form of each line, whatever its numbers.
-use Rattle.std.specs.Prelude.{Bool, true, false, cond, ◌&&◌, ◌||◌, List, [], ◌∷◌, ℕ, ◌-◌, ltb, eqb, length, get_or, take, drop}
-use Rattle.std.proofs.Math.Option.{Option, none, some}
+use Rattle.std.specs.Prelude.{Bool, true, false, cond, ◌&&◌, ◌||◌, List, [], ◌∷◌, ℕ, ◌-◌, ltb, eqb, length, get_or, take, drop, Option, None, Some}
 use Rattle.calendar.specs.Below.{all_of}
 use Rattle.lines.specs.Bytes.{bytes, byte}
 use Rattle.sheet.specs.Words.{same_bytes, word_in, is_digit, decimal, number_of, Signed, signed_of, pieces, each_of}
@@ -24,7 +23,7 @@ time_of s =
     cond
     (all_of is_digit (take 8 s)
     && (eqb (get_or s 8 0) (byte "T") && (clock_digits (length (drop 9 s)) && all_of is_digit (drop 9 s))))
-    (some
+    (Some
     (record {
       year = decimal 0 (take 4 s);
       month = decimal 0 (take 2 (drop 4 s));
@@ -33,7 +32,7 @@ time_of s =
       minute = decimal 0 (take 2 (drop 11 s));
       second = decimal 0 (drop 13 s);
     }))
-    none
+    None
 
 -- "An *offset* is a sign and `HHMM`."
 pub record Shift : Type 0 where
@@ -44,13 +43,13 @@ pub record Shift : Type 0 where
 shift : Bool → List ℕ → Option Shift
 shift m s =
     cond (eqb (length s) 4 && all_of is_digit s)
-    (some (record { minus = m; hours = decimal 0 (take 2 s); minutes = decimal 0 (drop 2 s) }))
-    none
+    (Some (record { minus = m; hours = decimal 0 (take 2 s); minutes = decimal 0 (drop 2 s) }))
+    None
 
 unfoldable pub shift_of : List ℕ → Option Shift
 unfolding shift
-shift_of [] = none
-shift_of (c ∷ cs) = cond (eqb c (byte "+")) (shift false cs) (cond (eqb c (byte "-")) (shift true cs) none)
+shift_of [] = None
+shift_of (c ∷ cs) = cond (eqb c (byte "+")) (shift false cs) (cond (eqb c (byte "-")) (shift true cs) None)
 
 -- "An element is a number or two numbers with `-`."
 pub data Element : Type 0 where
@@ -58,11 +57,11 @@ pub data Element : Type 0 where
   range : ℕ → ℕ → Element
 
 ends : Option (List ℕ) → Option Element
-ends none = none
-ends (some []) = none
-ends (some (a ∷ [])) = some (one a)
-ends (some (a ∷ b ∷ [])) = some (range a b)
-ends (some (a ∷ b ∷ c ∷ more)) = none
+ends None = None
+ends (Some []) = None
+ends (Some (a ∷ [])) = Some (one a)
+ends (Some (a ∷ b ∷ [])) = Some (range a b)
+ends (Some (a ∷ b ∷ c ∷ more)) = None
 
 unfoldable pub element_of : List ℕ → Option Element
 unfolding ends
@@ -74,12 +73,12 @@ pub data Field : Type 0 where
   list : List Element → Field
 
 listed : Option (List Element) → Option Field
-listed none = none
-listed (some es) = some (list es)
+listed None = None
+listed (Some es) = Some (list es)
 
 unfoldable pub field_of : List ℕ → Option Field
 unfolding listed
-field_of s = cond (same_bytes s (bytes "*")) (some star) (listed (each_of element_of (pieces (byte ",") s)))
+field_of s = cond (same_bytes s (bytes "*")) (Some star) (listed (each_of element_of (pieces (byte ",") s)))
 
 -- "`SU MO TU WE Th FR SA`", Sunday 0
 unfoldable pub weekday_words : List (List ℕ)
@@ -91,15 +90,15 @@ pub data Entry : Type 0 where
   ordinal : Signed → ℕ → Entry
 
 unfoldable pub ordinal_entry : Option Signed → ℕ → Option Entry
-ordinal_entry none w = none
-ordinal_entry (some n) w = some (ordinal n w)
+ordinal_entry None w = None
+ordinal_entry (Some n) w = Some (ordinal n w)
 
 unfoldable pub entry_of : List ℕ → Option Entry
 unfolding ordinal_entry
 entry_of s =
     let front = take (length s - 2) s in
     let w = word_in weekday_words (drop (length s - 2) s) in
-    cond (ltb w 7) (cond (eqb (length front) 0) (some (plain w)) (ordinal_entry (signed_of front) w)) none
+    cond (ltb w 7) (cond (eqb (length front) 0) (Some (plain w)) (ordinal_entry (signed_of front) w)) None
 
 -- the parts of a rule; T-01 added YEARLY and BYMONTH
 pub data Frequency : Type 0 where
@@ -120,16 +119,16 @@ frequency_words = bytes "DAILY" ∷ bytes "WEEKLY" ∷ bytes "MONTHLY" ∷ bytes
 
 unfoldable pub frequency_at : ℕ → Option Part
 frequency_at k =
-    cond (eqb k 0) (some (freq daily))
-    (cond (eqb k 1) (some (freq weekly)) (cond (eqb k 2) (some (freq monthly)) (cond (eqb k 3) (some (freq yearly)) none)))
+    cond (eqb k 0) (Some (freq daily))
+    (cond (eqb k 1) (Some (freq weekly)) (cond (eqb k 2) (Some (freq monthly)) (cond (eqb k 3) (Some (freq yearly)) None)))
 
 -- "Part names and values are upper case and compared byte for byte."
 unfoldable pub part_words : List (List ℕ)
 part_words = bytes "FREQ" ∷ bytes "INTERVAL" ∷ bytes "COUNT" ∷ bytes "UNTIL" ∷ bytes "BYDAY" ∷ bytes "BYMONTHDAY" ∷ bytes "BYSETPOS" ∷ bytes "BYMONTH" ∷ []
 
 unfoldable pub part_by : {A : Type 0} → (A → Part) → Option A → Option Part
-part_by part none = none
-part_by part (some a) = some (part a)
+part_by part None = None
+part_by part (Some a) = Some (part a)
 
 -- the value of a part by the part's name; "`BYMONTH=` 1 to 12, a comma list": numbers without a sign
 unfoldable pub value_of : ℕ → List ℕ → Option Part
@@ -142,14 +141,14 @@ value_of k v =
     (cond (eqb k 4) (part_by by_day (each_of entry_of (pieces (byte ",") v)))
     (cond (eqb k 5) (part_by by_month_day (each_of signed_of (pieces (byte ",") v)))
     (cond (eqb k 6) (part_by by_set_pos (each_of signed_of (pieces (byte ",") v)))
-    (cond (eqb k 7) (part_by by_month (each_of number_of (pieces (byte ",") v))) none)))))))
+    (cond (eqb k 7) (part_by by_month (each_of number_of (pieces (byte ",") v))) None)))))))
 
 unfoldable pub named : List (List ℕ) → Option Part
 unfolding value_of
-named [] = none
-named (name ∷ []) = none
+named [] = None
+named (name ∷ []) = None
 named (name ∷ value ∷ []) = value_of (word_in part_words name) value
-named (name ∷ value ∷ other ∷ more) = none
+named (name ∷ value ∷ other ∷ more) = None
 
 unfoldable pub part_of : List ℕ → Option Part
 unfolding named
@@ -165,44 +164,44 @@ pub data Form : Type 0 where
   except : Time → Form
 
 unfoldable pub form_by : {A : Type 0} → (A → Form) → Option A → Option Form
-form_by form none = none
-form_by form (some a) = some (form a)
+form_by form None = None
+form_by form (Some a) = Some (form a)
 
 unfoldable pub change_by : Option Time → Option Shift → Option Form
-change_by none s = none
-change_by (some t) none = none
-change_by (some t) (some s) = some (change t s)
+change_by None s = None
+change_by (Some t) None = None
+change_by (Some t) (Some s) = Some (change t s)
 
 unfoldable pub change_of : List (List ℕ) → Option Form
 unfolding change_by
-change_of [] = none
-change_of (t ∷ []) = none
+change_of [] = None
+change_of (t ∷ []) = None
 change_of (t ∷ s ∷ []) = change_by (time_of t) (shift_of s)
-change_of (t ∷ s ∷ other ∷ more) = none
+change_of (t ∷ s ∷ other ∷ more) = None
 
 -- "five cron fields, one space between"
 unfoldable pub cron_of : Option (List Field) → Option Form
-cron_of none = none
-cron_of (some []) = none
-cron_of (some (a ∷ [])) = none
-cron_of (some (a ∷ b ∷ [])) = none
-cron_of (some (a ∷ b ∷ c ∷ [])) = none
-cron_of (some (a ∷ b ∷ c ∷ d ∷ [])) = none
-cron_of (some (a ∷ b ∷ c ∷ d ∷ e ∷ [])) = some (cron a b c d e)
-cron_of (some (a ∷ b ∷ c ∷ d ∷ e ∷ f ∷ more)) = none
+cron_of None = None
+cron_of (Some []) = None
+cron_of (Some (a ∷ [])) = None
+cron_of (Some (a ∷ b ∷ [])) = None
+cron_of (Some (a ∷ b ∷ c ∷ [])) = None
+cron_of (Some (a ∷ b ∷ c ∷ d ∷ [])) = None
+cron_of (Some (a ∷ b ∷ c ∷ d ∷ e ∷ [])) = Some (cron a b c d e)
+cron_of (Some (a ∷ b ∷ c ∷ d ∷ e ∷ f ∷ more)) = None
 
 unfoldable pub rule_by : Option Time → Option (List Part) → Option Form
-rule_by none ps = none
-rule_by (some t) none = none
-rule_by (some t) (some ps) = some (rule t ps)
+rule_by None ps = None
+rule_by (Some t) None = None
+rule_by (Some t) (Some ps) = Some (rule t ps)
 
 -- "local start time, space, rule parts separated by `;`"
 unfoldable pub rule_of : List (List ℕ) → Option Form
 unfolding rule_by
-rule_of [] = none
-rule_of (t ∷ []) = none
+rule_of [] = None
+rule_of (t ∷ []) = None
 rule_of (t ∷ ps ∷ []) = rule_by (time_of t) (each_of part_of (pieces (byte ";") ps))
-rule_of (t ∷ ps ∷ other ∷ more) = none
+rule_of (t ∷ ps ∷ other ∷ more) = None
 
 unfoldable pub tagged : ℕ → List ℕ → Option Form
 unfolding form_by change_of cron_of rule_of
@@ -211,11 +210,11 @@ tagged tag s =
     (cond (eqb tag (byte "T")) (change_of (pieces (byte " ") s))
     (cond (eqb tag (byte "C")) (cron_of (each_of field_of (pieces (byte " ") s)))
     (cond (eqb tag (byte "R")) (rule_of (pieces (byte " ") s))
-    (cond (eqb tag (byte "D")) (form_by extra (time_of s)) (cond (eqb tag (byte "X")) (form_by except (time_of s)) none)))))
+    (cond (eqb tag (byte "D")) (form_by extra (time_of s)) (cond (eqb tag (byte "X")) (form_by except (time_of s)) None)))))
 
 -- "Each line starts with a tag letter and one space."
 unfoldable pub form_of : List ℕ → Option Form
 unfolding tagged
-form_of [] = none
-form_of (tag ∷ []) = none
-form_of (tag ∷ space ∷ s) = cond (eqb space (byte " ")) (tagged tag s) none
+form_of [] = None
+form_of (tag ∷ []) = None
+form_of (tag ∷ space ∷ s) = cond (eqb space (byte " ")) (tagged tag s) None

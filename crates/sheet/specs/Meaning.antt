@@ -1,6 +1,5 @@
 -- "Sheet meaning", from the lines' text, counting included.
-use Rattle.std.specs.Prelude.{Bool, true, false, cond, not, ◌&&◌, ◌||◌, List, [], ◌∷◌, ◌≡◌, ℕ, ◌+◌, ◌-◌, ◌*◌, ◌/◌, ◌%◌, leb, eqb}
-use Rattle.std.proofs.Math.Option.{Option, none, some, get_or}
+use Rattle.std.specs.Prelude.{Bool, true, false, cond, not, ◌&&◌, ◌||◌, List, [], ◌∷◌, ◌≡◌, ℕ, ◌+◌, ◌-◌, ◌*◌, ◌/◌, ◌%◌, leb, eqb, Option, None, Some, unwrap_or}
 use Rattle.calendar.specs.Below.{within, any_of, count_from}
 use Rattle.calendar.specs.Window.{month_first, local_date, local_weekday, local_week, from_end, day_minutes}
 use Rattle.zone.specs.Zone.{Offsets, instant_of, in_window}
@@ -78,27 +77,27 @@ month_has d n = eqb (month_number d) n
 
 -- "A weekday list matches if any entry does."
 abbrev pub allows : {A : Type 0} → (A → Bool) → Option (List A) → Bool
-allows test none = true
-allows test (some xs) = any_of test xs
+allows test None = true
+allows test (Some xs) = any_of test xs
 
 both_allow : Given → ℕ → Bool
 both_allow g d = allows (entry_has d) g.days && allows (month_day_has d) g.month_days
 
 weekday_or : Option (List Entry) → ℕ → ℕ → Bool
-weekday_or none first d = eqb (local_weekday d) (local_weekday first)
-weekday_or (some es) first d = any_of (entry_has d) es
+weekday_or None first d = eqb (local_weekday d) (local_weekday first)
+weekday_or (Some es) first d = any_of (entry_has d) es
 
 month_day_or : Option (List Entry) → Option (List Signed) → ℕ → ℕ → Bool
-month_day_or none none first d = eqb (local_date d).day (local_date first).day
-month_day_or none (some ns) first d = any_of (month_day_has d) ns
-month_day_or (some es) none first d = any_of (entry_has d) es
-month_day_or (some es) (some ns) first d = any_of (entry_has d) es && any_of (month_day_has d) ns
+month_day_or None None first d = eqb (local_date d).day (local_date first).day
+month_day_or None (Some ns) first d = any_of (month_day_has d) ns
+month_day_or (Some es) None first d = any_of (entry_has d) es
+month_day_or (Some es) (Some ns) first d = any_of (entry_has d) es && any_of (month_day_has d) ns
 
 unfoldable pub month_or : Option (List Entry) → Option (List Signed) → Option (List ℕ) → ℕ → ℕ → Bool
-month_or none none none first d = month_has d (month_number first)
-month_or none none (some ms) first d = any_of (month_has d) ms
-month_or none (some ns) ms first d = allows (month_has d) ms
-month_or (some es) ns ms first d = allows (month_has d) ms
+month_or None None None first d = month_has d (month_number first)
+month_or None None (Some ms) first d = any_of (month_has d) ms
+month_or None (Some ns) ms first d = allows (month_has d) ms
+month_or (Some es) ns ms first d = allows (month_has d) ms
 
 -- "DAILY: the day, if BYDAY and BYMONTHDAY, where given, both allow it. WEEKLY: the days of BYDAY, by default the start's weekday.
 -- MONTHLY: days that satisfy each of BYDAY and BYMONTHDAY that is given; with neither, the start's day of month."
@@ -127,25 +126,25 @@ period_of yearly d = (local_date d).month / 12
 unfoldable pub occurs_on : Frequency → Given → ℕ → ℕ → Bool
 occurs_on f g first d =
     leb first d
-    && (eqb ((period_of f d - period_of f first) % get_or g.interval 1) 0
+    && (eqb ((period_of f d - period_of f first) % unwrap_or g.interval 1) 0
     && (day_set f g first d && allows (position_has f g first d) g.positions))
 
 -- COUNT and UNTIL left out; "the time of day is the start's"
 unfoldable pub occurs_at : Given → ℕ → ℕ → Bool
-occurs_at g start m = occurs_on (get_or g.frequency daily) g (start / day_minutes) (m / day_minutes) && eqb (m % day_minutes) (start % day_minutes)
+occurs_at g start m = occurs_on (unwrap_or g.frequency daily) g (start / day_minutes) (m / day_minutes) && eqb (m % day_minutes) (start % day_minutes)
 
 abbrev pub within_count : Option ℕ → (ℕ → Bool) → Bool
-within_count none test = true
-within_count (some c) test = test c
+within_count None test = true
+within_count (Some c) test = test c
 
 abbrev pub within_until : Option Time → ℕ → Bool
-within_until none m = true
-within_until (some t) m = leb m (minute_of t)
+within_until None m = true
+within_until (Some t) m = leb m (minute_of t)
 
 -- "Then COUNT keeps the first so many; UNTIL keeps those not later than it."
 unfoldable pub rule_holds : Given → ℕ → ℕ → Bool
 rule_holds g start m =
-    let f = get_or g.frequency daily in
+    let f = unwrap_or g.frequency daily in
     let first = start / day_minutes in
     elim (occurs_at g start m) [
       | true ↦ within_until g.until m && within_count g.count (λ c. leb (count_from (occurs_on f g first) (m / day_minutes + 1 - first) first) c)

@@ -1,6 +1,5 @@
 -- The parts of a rule together, and which don't go together.
-use Rattle.std.specs.Prelude.{Bool, true, false, not, ◌&&◌, ◌||◌, List, [], ◌∷◌, ℕ, eqb}
-use Rattle.std.proofs.Math.Option.{Option, none, some}
+use Rattle.std.specs.Prelude.{Bool, true, false, not, ◌&&◌, ◌||◌, List, [], ◌∷◌, ℕ, eqb, Option, None, Some}
 use Rattle.calendar.specs.Below.{any_of}
 use Rattle.sheet.specs.Form.{Time, Entry, plain, ordinal, Frequency, daily, weekly, monthly, yearly, Part, freq, interval, count, until, by_day, by_month_day, by_set_pos, by_month}
 use Rattle.sheet.specs.Words.{Signed}
@@ -17,23 +16,23 @@ pub record Given : Type 0 where
   pub months : Option (List ℕ)
 
 with_part : Part → Given → Given
-with_part (freq f) g = record { frequency = some f; interval = g.interval; count = g.count; until = g.until; days = g.days; month_days = g.month_days; positions = g.positions; months = g.months }
-with_part (interval n) g = record { frequency = g.frequency; interval = some n; count = g.count; until = g.until; days = g.days; month_days = g.month_days; positions = g.positions; months = g.months }
-with_part (count n) g = record { frequency = g.frequency; interval = g.interval; count = some n; until = g.until; days = g.days; month_days = g.month_days; positions = g.positions; months = g.months }
-with_part (until t) g = record { frequency = g.frequency; interval = g.interval; count = g.count; until = some t; days = g.days; month_days = g.month_days; positions = g.positions; months = g.months }
-with_part (by_day es) g = record { frequency = g.frequency; interval = g.interval; count = g.count; until = g.until; days = some es; month_days = g.month_days; positions = g.positions; months = g.months }
-with_part (by_month_day ns) g = record { frequency = g.frequency; interval = g.interval; count = g.count; until = g.until; days = g.days; month_days = some ns; positions = g.positions; months = g.months }
-with_part (by_set_pos ns) g = record { frequency = g.frequency; interval = g.interval; count = g.count; until = g.until; days = g.days; month_days = g.month_days; positions = some ns; months = g.months }
-with_part (by_month ns) g = record { frequency = g.frequency; interval = g.interval; count = g.count; until = g.until; days = g.days; month_days = g.month_days; positions = g.positions; months = some ns }
+with_part (freq f) g = record { frequency = Some f; interval = g.interval; count = g.count; until = g.until; days = g.days; month_days = g.month_days; positions = g.positions; months = g.months }
+with_part (interval n) g = record { frequency = g.frequency; interval = Some n; count = g.count; until = g.until; days = g.days; month_days = g.month_days; positions = g.positions; months = g.months }
+with_part (count n) g = record { frequency = g.frequency; interval = g.interval; count = Some n; until = g.until; days = g.days; month_days = g.month_days; positions = g.positions; months = g.months }
+with_part (until t) g = record { frequency = g.frequency; interval = g.interval; count = g.count; until = Some t; days = g.days; month_days = g.month_days; positions = g.positions; months = g.months }
+with_part (by_day es) g = record { frequency = g.frequency; interval = g.interval; count = g.count; until = g.until; days = Some es; month_days = g.month_days; positions = g.positions; months = g.months }
+with_part (by_month_day ns) g = record { frequency = g.frequency; interval = g.interval; count = g.count; until = g.until; days = g.days; month_days = Some ns; positions = g.positions; months = g.months }
+with_part (by_set_pos ns) g = record { frequency = g.frequency; interval = g.interval; count = g.count; until = g.until; days = g.days; month_days = g.month_days; positions = Some ns; months = g.months }
+with_part (by_month ns) g = record { frequency = g.frequency; interval = g.interval; count = g.count; until = g.until; days = g.days; month_days = g.month_days; positions = g.positions; months = Some ns }
 
 unfoldable pub given_of : List Part → Given
 unfolding with_part
-given_of [] = record { frequency = none; interval = none; count = none; until = none; days = none; month_days = none; positions = none; months = none }
+given_of [] = record { frequency = None; interval = None; count = None; until = None; days = None; month_days = None; positions = None; months = None }
 given_of (p ∷ ps) = with_part p (given_of ps)
 
 abbrev pub is_given : {A : Type 0} → Option A → Bool
-is_given none = false
-is_given (some a) = true
+is_given None = false
+is_given (Some a) = true
 
 -- the place of a part's name in the document's list
 abbrev pub name_of : Part → ℕ
@@ -56,8 +55,8 @@ is_ordinal (plain w) = false
 is_ordinal (ordinal n w) = true
 
 abbrev pub ordinals : Option (List Entry) → Bool
-ordinals none = false
-ordinals (some es) = any_of is_ordinal es
+ordinals None = false
+ordinals (Some es) = any_of is_ordinal es
 
 placeless : Given → Bool
 placeless g = is_given g.positions && not (is_given g.days || is_given g.month_days)
@@ -72,8 +71,8 @@ clashing monthly g = placeless g
 clashing yearly g = ordinals g.days && not (is_given g.months) || placeless g
 
 unfoldable pub by_frequency : Option Frequency → Given → Bool
-by_frequency none g = false
-by_frequency (some f) g = not (clashing f g)
+by_frequency None g = false
+by_frequency (Some f) g = not (clashing f g)
 
 -- "FREQ missing, a part twice, COUNT with UNTIL"
 unfoldable pub parts_together : List Part → Bool

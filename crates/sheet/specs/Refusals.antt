@@ -1,6 +1,5 @@
 -- "Refusal numbers" 1 to 8 of a sheet: for a line one condition each, and the least that holds.
-use Rattle.std.specs.Prelude.{Bool, true, false, cond, not, ◌&&◌, ◌||◌, List, [], ◌∷◌, ℕ, zero, suc, ◌+◌, leb, ltb, eqb, length}
-use Rattle.std.proofs.Math.Option.{Option, none, some}
+use Rattle.std.specs.Prelude.{Bool, true, false, cond, not, ◌&&◌, ◌||◌, List, [], ◌∷◌, ℕ, zero, suc, ◌+◌, leb, ltb, eqb, length, Option, None, Some}
 use Rattle.calendar.specs.Below.{within, all_of}
 use Rattle.lines.specs.Lines.{lines_of, lines_in}
 use Rattle.zone.specs.Zone.{under_limits, distance}
@@ -65,8 +64,8 @@ form_refusal c f =
     (cond (not (together f)) 6 (cond (not (limits_kept c f)) 7 (cond (not (start_occurs f)) 8 0))))
 
 unfoldable pub form_refusal_or3 : Context → Option Form → ℕ
-form_refusal_or3 c none = 3
-form_refusal_or3 c (some f) = form_refusal c f
+form_refusal_or3 c None = 3
+form_refusal_or3 c (Some f) = form_refusal c f
 
 unfoldable pub line_refusal : Context → List ℕ → ℕ
 line_refusal c line = cond (not (bytes_good line)) 2 (form_refusal_or3 c (form_of line))
@@ -93,8 +92,8 @@ unfoldable pub read_from : ℕ → Context → List (List ℕ) → List ℕ → 
 read_from n c [] tail = ended n tail
 read_from n c (line ∷ more) tail =
     elim (form_of line) [
-      | none ↦ refused (line_refusal c line) (n + 1)
-      | some f ↦ elim (eqb (line_refusal c line) 0) [
+      | None ↦ refused (line_refusal c line) (n + 1)
+      | Some f ↦ elim (eqb (line_refusal c line) 0) [
         | true ↦ following f (read_from (n + 1) (context_after c f) more tail)
         | false ↦ refused (line_refusal c line) (n + 1)
       ]

@@ -1,6 +1,5 @@
 -- Bytes of a line: digits, numbers, words, and pieces between separators.
-use Rattle.std.specs.Prelude.{Bool, true, false, cond, ◌&&◌, List, [], ◌∷◌, ℕ, suc, ◌+◌, ◌-◌, ◌*◌, eqb, length}
-use Rattle.std.proofs.Math.Option.{Option, none, some}
+use Rattle.std.specs.Prelude.{Bool, true, false, cond, ◌&&◌, List, [], ◌∷◌, ℕ, suc, ◌+◌, ◌-◌, ◌*◌, eqb, length, Option, None, Some}
 use Rattle.calendar.specs.Below.{within, all_of}
 use Rattle.lines.specs.Bytes.{byte}
 
@@ -26,7 +25,7 @@ decimal so_far (c ∷ cs) = decimal (10 * so_far + (c - byte "0")) cs
 
 -- "Numbers have 1 to 4 decimal digits; leading zeros are allowed."
 unfoldable pub number_of : List ℕ → Option ℕ
-number_of s = cond (within 1 4 (length s) && all_of is_digit s) (some (decimal 0 s)) none
+number_of s = cond (within 1 4 (length s) && all_of is_digit s) (Some (decimal 0 s)) None
 
 -- a number with a sign or none
 pub record Signed : Type 0 where
@@ -34,13 +33,13 @@ pub record Signed : Type 0 where
   pub number : ℕ
 
 signed_by : Bool → Option ℕ → Option Signed
-signed_by m none = none
-signed_by m (some n) = some (record { minus = m; number = n })
+signed_by m None = None
+signed_by m (Some n) = Some (record { minus = m; number = n })
 
 -- "A sign before an ordinal, month day or position is `+` or `-` or absent."
 unfoldable pub signed_of : List ℕ → Option Signed
 unfolding signed_by
-signed_of [] = none
+signed_of [] = None
 signed_of (c ∷ cs) =
     cond (eqb c (byte "+")) (signed_by false (number_of cs)) (cond (eqb c (byte "-")) (signed_by true (number_of cs)) (signed_by false (number_of (c ∷ cs))))
 
@@ -56,11 +55,11 @@ pieces separator (c ∷ cs) = elim (eqb c separator) [ true ↦ [] ∷ pieces se
 
 -- every piece is of the form, or the whole is of none
 unfoldable pub cons_of : {A : Type 0} → Option A → Option (List A) → Option (List A)
-cons_of none xs = none
-cons_of (some x) none = none
-cons_of (some x) (some xs) = some (x ∷ xs)
+cons_of None xs = None
+cons_of (Some x) None = None
+cons_of (Some x) (Some xs) = Some (x ∷ xs)
 
 unfoldable pub each_of : {A : Type 0} → (List ℕ → Option A) → List (List ℕ) → Option (List A)
 unfolding cons_of
-each_of form [] = some []
+each_of form [] = Some []
 each_of form (s ∷ ss) = cons_of (form s) (each_of form ss)

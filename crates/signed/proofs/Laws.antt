@@ -1,4 +1,4 @@
--- The bias and back are the identity on the ranges.
+-- The bias and back are the identity on the ranges. `low` is one less than what a number is moved up by.
 use mathlib.Core.Bool.{false}
 use mathlib.Core.Logic.{dite}
 use mathlib.Core.Path.{◌≡◌, refl, ap}
@@ -9,7 +9,11 @@ use borrow.Author.Tests.{ltb-false, lt-ltb, le-ltb}
 use lib.IntN.{ℤ, pos, negsuc, sub_ℕ}
 use lib.Signed.{lt_z}
 use Rattle.signed.specs.Bias.{lift, bias_day, unbias_day, bias_instant, unbias_instant}
-use Rattle.signed.proofs.Signs.{lift_top}
+
+-- a number that is not past the top
+lift_top : (low top : ℕ) (z : ℤ) → lt_z (pos top) z ≡ false → lift (suc low) z ≤ top + suc low
+lift_top low top (pos n) h = omega (arith, ltb-false top n h)
+lift_top low top (negsuc n) h = omega arith
 
 -- down and up
 lift_of_down : (n up : ℕ) → lift up (sub_ℕ n up) ≡ n

@@ -1,3 +1,2 @@
--- What the proofs of the signed edge share, and the laws of the bias for whoever stands above.
-pub mod Signs
+-- The laws of the bias, for whoever stands above.
 pub mod Laws

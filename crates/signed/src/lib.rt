@@ -24,68 +24,60 @@ const LATEST: i64 = 52597440;
 // The latest one, moved up.
 pub const LAST_INSTANT: u64 = 52598880;
 
-// A number that counts from 1: 0 stands for every one below.
+// A number that counts from 1: 0 stands for every one below. With its promise it is one of the edge's own words, as `whole`.
 pub fn natural(z: i64) -> u64
     ensures { result ≡ natural_of z }
 {
-    if z < 0 {
-        return 0;
-    }
-    z as u64
+    u64::try_from(z).unwrap_or(0)
 }
 
 // A natural as C gets it.
+#[tactic(auto, unfolding(crate::specs::Bias::whole_of))]
 pub fn whole(n: u64) -> i64
     ensures { result ≡ whole_of n }
 {
-    if n < 9223372036854775808 {
-        return n as i64;
-    }
-    0
+    i64::try_from(n).unwrap_or(0)
 }
 
 // A day number as the day since 0001-01-01; 3,652,059 for every number outside the range.
+#[tactic(auto, unfolding(crate::specs::Bias::bias_day))]
 pub fn bias_day(z: i64) -> u64
     ensures { result ≡ bias_day z }
 {
-    if z < FIRST_DAY {
-        return DAYS;
+    if (FIRST_DAY..=LAST_DAY).contains(&z) {
+        (z + DAY_BIAS) as u64
+    } else {
+        DAYS
     }
-    if LAST_DAY < z {
-        return DAYS;
-    }
-    (z + DAY_BIAS) as u64
 }
 
 // The day number of a day since 0001-01-01.
+#[tactic(auto, unfolding(crate::specs::Bias::unbias_day))]
 pub fn unbias_day(n: u64) -> i64
     ensures { result ≡ unbias_day n }
 {
     if LAST < n {
         return 0;
     }
-    (n as i64) - DAY_BIAS
+    n as i64 - DAY_BIAS
 }
 
 // An instant moved up by a day, held to a day before and after the window.
+#[tactic(auto, unfolding(crate::specs::Bias::bias_instant))]
 pub fn bias_instant(z: i64) -> u64
     ensures { result ≡ bias_instant z }
 {
-    if z < EARLIEST {
-        return 0;
-    }
-    if LATEST < z {
-        return LAST_INSTANT;
-    }
-    (z + INSTANT_BIAS) as u64
+    (z.clamp(EARLIEST, LATEST) + INSTANT_BIAS) as u64
 }
 
 // The instant of a number of the inside.
+// Not one function with `unbias_day`: over both it would ask for the sizes of its bounds, and each would still be named to say its own definition.
+#[tactic(auto, unfolding(crate::specs::Bias::unbias_instant))]
 pub fn unbias_instant(n: u64) -> i64
     ensures { result ≡ unbias_instant n }
 {
     if LAST_INSTANT < n {
         return 0;
     }
-    (n as i64) - INSTANT_BIAS
+    n as i64 - INSTANT_BIAS
 }

@@ -1,8 +1,7 @@
 -- One of some words at a place, against a whole piece that is one of them.
+use Rattle.std.specs.Prelude.{Option, None, Some, unwrap_or}
 use mathlib.Core.Bool.{Bool, true, false, cond, not, ◌&&◌}
 use mathlib.Core.List.{List, [], ◌∷◌, ◌++◌}
-use mathlib.Core.Option
-use mathlib.Core.Option.{Option, none, some}
 use mathlib.Core.Path.{◌≡◌, refl, sym, ap, ◌∙◌}
 use Prim.Native.Nat.{ℕ, suc, ◌+◌, ◌≤◌}
 use native.Mathlib.Omega.{arith}
@@ -18,8 +17,8 @@ use Rattle.words.proofs.Tied.{made, Tied, tied_by, tied_made, tied_none}
 
 -- the place of a word among some
 unfoldable pub word_of : List (List ℕ) → List ℕ → Option ℕ
-word_of [] p = none
-word_of (w ∷ ws) p = cond (same_bytes w p) (some 0) (made suc (word_of ws p))
+word_of [] p = None
+word_of (w ∷ ws) p = cond (same_bytes w p) (Some 0) (made suc (word_of ws p))
 
 -- no word begins with one before it
 unfoldable pub prefix_free : List (List ℕ) → Bool
@@ -68,12 +67,12 @@ starts_length (x ∷ w) [] e = let z : ◌≡◌ {A = ℕ} 0 1 = cc in absurd (o
 starts_length (x ∷ w) (y ∷ p) e = omega (arith, starts_length w p (both_true (eqb x y) _ e).1)
 
 -- a piece that begins with a word is none of those that do not
-none_of : (w p : List ℕ) (ws : List (List ℕ)) → starts_with w p ≡ true → all_of (λ v. not (starts_with w v)) ws ≡ true → word_of ws p ≡ none
+none_of : (w p : List ℕ) (ws : List (List ℕ)) → starts_with w p ≡ true → all_of (λ v. not (starts_with w v)) ws ≡ true → word_of ws p ≡ None
 unfolding word_of
 none_of w p [] e a = refl
 none_of w p (v ∷ ws) e a = by_same (same_bytes v p) refl (none_of w p ws e (both_true (not (starts_with w v)) _ a).1)
   where
-    by_same : (b : Bool) → same_bytes v p ≡ b → word_of ws p ≡ none → cond (same_bytes v p) (some 0) (made suc (word_of ws p)) ≡ none
+    by_same : (b : Bool) → same_bytes v p ≡ b → word_of ws p ≡ None → cond (same_bytes v p) (Some 0) (made suc (word_of ws p)) ≡ None
     by_same true f g =
         let h : true ≡ false = sym e ∙ ap (starts_with w) (sym (same_is v p f)) ∙ not-true _ (both_true _ _ a).0 in
         let z : ◌≡◌ {A = ℕ} 0 1 = cc in absurd (omega arith)
@@ -95,18 +94,18 @@ module _ (s : List ℕ) (at : ℕ) (p tail : List ℕ) (here : drop at s ≡ p +
       starts : starts_with w (drop at s) ≡ starts_with w p
       starts = ap (starts_with w) here ∙ starts_front w p tail bytes.0
 
-      not_whole : (b : Bool) → same_bytes w p ≡ b → (length w ≡ length p → ⊥) → word_of ws p ≡ none
-          → cond (same_bytes w p) (some 0) (made suc (word_of ws p)) ≡ none
+      not_whole : (b : Bool) → same_bytes w p ≡ b → (length w ≡ length p → ⊥) → word_of ws p ≡ None
+          → cond (same_bytes w p) (Some 0) (made suc (word_of ws p)) ≡ None
       not_whole true e n g = absurd (n (ap length (same_is w p e)))
       not_whole false e n g = rw (e, g) refl
 
       not_same : (b : Bool) → same_bytes w p ≡ b → starts_with w p ≡ false
-          → cond (same_bytes w p) (some 0) (made suc (word_of ws p)) ≡ made suc (word_of ws p)
+          → cond (same_bytes w p) (Some 0) (made suc (word_of ws p)) ≡ made suc (word_of ws p)
       not_same true e n = let g : true ≡ false = sym (same_starts w p e) ∙ n in let z : ◌≡◌ {A = ℕ} 0 1 = cc in absurd (omega arith)
       not_same false e n = rw e refl
 
       by_start : (b : Bool) → starts_with w p ≡ b → Tied (word_of ws p) (one_at ws s at) at (at + length p)
-          → Tied (cond (same_bytes w p) (some 0) (made suc (word_of ws p))) (cond (starts_with w (drop at s)) (some (0, at + length w)) (made_read suc (one_at ws s at))) at (at + length p)
+          → Tied (cond (same_bytes w p) (Some 0) (made suc (word_of ws p))) (cond (starts_with w (drop at s)) (Some (0, at + length w)) (made_read suc (one_at ws s at))) at (at + length p)
       by_start true e t =
           rw (starts ∙ e)
           (tied_by _ 0 (at + length w) at (at + length p) (omega arith) true
@@ -117,13 +116,13 @@ module _ (s : List ℕ) (at : ℕ) (p tail : List ℕ) (here : drop at s ≡ p +
       by_start false e t = rw (starts ∙ e, not_same (same_bytes w p) refl e) (tied_made suc _ _ at at _ (omega arith) t)
 
 -- the sheet's way of saying it: past the end of the words where it is none of them
-pub word_in_lem : (ws : List (List ℕ)) (p : List ℕ) → word_in ws p ≡ Option.get_or (word_of ws p) (length ws)
+pub word_in_lem : (ws : List (List ℕ)) (p : List ℕ) → word_in ws p ≡ unwrap_or (word_of ws p) (length ws)
 unfolding word_in word_of
 word_in_lem [] p = refl
 word_in_lem (w ∷ ws) p = by_same (same_bytes w p) (word_of ws p) (word_in_lem ws p)
   where
-    by_same : (b : Bool) (o : Option ℕ) → word_in ws p ≡ Option.get_or o (length ws)
-        → cond b 0 (suc (word_in ws p)) ≡ Option.get_or (cond b (some 0) (made suc o)) (suc (length ws))
+    by_same : (b : Bool) (o : Option ℕ) → word_in ws p ≡ unwrap_or o (length ws)
+        → cond b 0 (suc (word_in ws p)) ≡ unwrap_or (cond b (Some 0) (made suc o)) (suc (length ws))
     by_same true o e = refl
-    by_same false none e = ap suc e
-    by_same false (some k) e = ap suc e
+    by_same false None e = ap suc e
+    by_same false (Some k) e = ap suc e

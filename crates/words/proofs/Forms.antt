@@ -1,12 +1,12 @@
 -- The readers of signed numbers, times and offsets against the forms of whole pieces.
+use Rattle.std.specs.Prelude.{Option, None, Some}
 use mathlib.Core.Bool.{Bool, true, false, cond, ◌&&◌, ◌||◌, and-true, and-false}
 use mathlib.Core.List.{List, [], ◌∷◌, ◌++◌, append_assoc}
-use mathlib.Core.Option.{Option, none, some}
 use mathlib.Core.Path.{◌≡◌, refl, sym, ap, ◌∙◌}
 use Prim.Native.Nat.{ℕ, suc, ◌+◌, ◌-◌, ◌<◌, ◌≤◌}
 use native.Mathlib.Omega.{arith}
-use borrow.Author.Tests.{lt-ltb, eq-eqb, ne_eqb, eqb-true}
-use lib.Dec.{ltb, eqb}
+use borrow.Author.Tests.{eq-eqb, ne_eqb, eqb-true}
+use lib.Dec.{eqb}
 use lib.ListN.{length, get_or, take, drop, length-drop, length-take, drop_of_length-le, get_or-append, get_or-eq_default}
 use lib.Seq.{split_at, drop-drop, get_or-drop, drop-append-le, take-append-le, take_all}
 use Rattle.calendar.proofs.Every.{both_true}
@@ -15,10 +15,8 @@ use Rattle.zone.proofs.Good.{by_order}
 use Rattle.sheet.specs.Form.{Shift, shift_of, Time, clock_digits, time_of}
 use Rattle.sheet.specs.Words.{is_digit, decimal, number_of, Signed, signed_of}
 use Rattle.words.specs.Answers.{number_read, signed_read, shift_read, time_read}
-use Rattle.words.specs.Reads.{digits_in, decimal_at, cursor, number_at, sign_at, with_sign, signed_at, shift_at, time_bytes, time_at}
-use Rattle.words.specs.declared.cursor.Number.{Number}
-use Rattle.words.specs.declared.cursor.Shifted.{Shifted}
-use Rattle.words.specs.declared.cursor.Timed.{Timed}
+use Rattle.words.specs.Reads.{digits_in, decimal_at, cursor, number_at, sign_at, with_sign, signed_at, shift_at, time_bytes, time_of as time_at_bytes, time_at}
+use Rattle.words.specs.declared.cursor.Cursor.{Cursor}
 use Rattle.words.proofs.Counting.{clock_digits_lem}
 use Rattle.words.proofs.Listing.{first_byte}
 use Rattle.words.proofs.Tied.{all_digits, some_digits, digits_inside, whole_read, Tied, tied_by, tied_none, number_tied}
@@ -31,33 +29,33 @@ pub record Stops (tail : List ℕ) : Type 0 where
 
 -- ---- a number with a sign or none
 abbrev signed_by : Bool → Option ℕ → Option Signed
-signed_by m none = none
-signed_by m (some n) = some (record { minus = m; number = n })
+signed_by m None = None
+signed_by m (Some n) = Some (record { minus = m; number = n })
 
 -- a sign before what was read
-signed_whole : (m : Bool) (r : Number) (end : ℕ) → whole_read (signed_read (with_sign m r)) end ≡ signed_by m (whole_read (number_read r) end)
+signed_whole : (m : Bool) (r : Option (ℕ × Cursor)) (end : ℕ) → whole_read (signed_read (with_sign m r)) end ≡ signed_by m (whole_read (number_read r) end)
 unfolding whole_read
-signed_whole m (Number.Is v c) end = by_place (eqb c.at end)
+signed_whole m (Some (v, c)) end = by_place (eqb c.at end)
   where
-    by_place : (b : Bool) → cond b (some (record { minus = m; number = v })) none ≡ signed_by m (cond b (some v) none)
+    by_place : (b : Bool) → cond b (Some (record { minus = m; number = v })) None ≡ signed_by m (cond b (Some v) None)
     by_place true = refl
     by_place false = refl
-signed_whole m Number.Not end = refl
+signed_whole m None end = refl
 
-signed_place : (m : Bool) (r : Number) (x : Signed × ℕ) → signed_read (with_sign m r) ≡ some x → number_read r ≡ some (x.0.number, x.1)
-signed_place m (Number.Is v c) x e = ap back e
+signed_place : (m : Bool) (r : Option (ℕ × Cursor)) (x : Signed × ℕ) → signed_read (with_sign m r) ≡ Some x → number_read r ≡ Some (x.0.number, x.1)
+signed_place m (Some (v, c)) x e = ap back e
   where
     back : Option (Signed × ℕ) → Option (ℕ × ℕ)
-    back none = none
-    back (some y) = some (y.0.number, y.1)
-signed_place m Number.Not x e = let z : ◌≡◌ {A = ℕ} 0 1 = cc in absurd (omega arith)
+    back None = None
+    back (Some y) = Some (y.0.number, y.1)
+signed_place m None x e = let z : ◌≡◌ {A = ℕ} 0 1 = cc in absurd (omega arith)
 
 module _ (s : List ℕ) (at : ℕ) (tail : List ℕ) (stops : Stops tail) where
   next_bytes : (c : ℕ) (p : List ℕ) → drop at s ≡ (c ∷ p) ++ tail → drop (at + 1) s ≡ p ++ tail
   next_bytes c p here = sym (drop-drop 1 at s) ∙ ap (drop 1) here
 
   -- with the sign that was read
-  signed_by_lem : (p : List ℕ) (m : Bool) (next : ℕ) (whole : List ℕ) → sign_at s at ≡ record { minus = m; next = cursor next }
+  signed_by_lem : (p : List ℕ) (m : Bool) (next : ℕ) (whole : List ℕ) → sign_at s at ≡ (m, cursor next)
       → drop next s ≡ p ++ tail
       → next + length p ≡ at + length whole → at ≤ next → signed_of whole ≡ signed_by m (number_of p)
       → Tied (signed_of whole) (signed_read (signed_at s at)) at (at + length whole)
@@ -114,15 +112,15 @@ exactly p tail n stops l = by_digits (all_of is_digit p) refl
 
 -- ---- an offset
 shift_read_lem : (b : Bool) (m : Bool) (h n e : ℕ)
-    → shift_read (cond b (Shifted.Is (record { minus = m; hours = h; minutes = n }) (cursor e)) Shifted.Not) ≡ cond b (some (record { minus = m; hours = h; minutes = n }, e)) none
+    → shift_read (cond b (Some (record { minus = m; hours = h; minutes = n }, cursor e)) None) ≡ cond b (Some (record { minus = m; hours = h; minutes = n }, e)) None
 shift_read_lem true m h n e = refl
 shift_read_lem false m h n e = refl
 
 -- the form after a sign
 shift_form : Bool → List ℕ → Option Shift
 shift_form m p =
-    cond (eqb (length p) 4 && all_of is_digit p) (some (record { minus = m; hours = decimal 0 (take 2 p); minutes = decimal 0 (drop 2 p) }))
-    none
+    cond (eqb (length p) 4 && all_of is_digit p) (Some (record { minus = m; hours = decimal 0 (take 2 p); minutes = decimal 0 (drop 2 p) }))
+    None
 
 shift_plus : (c : ℕ) (p : List ℕ) → eqb c 43 ≡ true → shift_of (c ∷ p) ≡ shift_form false p
 unfolding shift_of shift_form
@@ -132,11 +130,11 @@ shift_minus : (c : ℕ) (p : List ℕ) → eqb c 43 ≡ false → eqb c 45 ≡ t
 unfolding shift_of shift_form
 shift_minus c p e f = rw (e, f) refl
 
-shift_empty : shift_of [] ≡ none
+shift_empty : shift_of [] ≡ None
 unfolding shift_of
 shift_empty = refl
 
-shift_neither : (c : ℕ) (p : List ℕ) → eqb c 43 ≡ false → eqb c 45 ≡ false → shift_of (c ∷ p) ≡ none
+shift_neither : (c : ℕ) (p : List ℕ) → eqb c 43 ≡ false → eqb c 45 ≡ false → shift_of (c ∷ p) ≡ None
 unfolding shift_of
 shift_neither c p e f = rw (e, f) refl
 
@@ -145,7 +143,7 @@ module _ (s : List ℕ) (at : ℕ) (p tail : List ℕ) (m : Bool) (stops : digit
   four : Shift
   four = record { minus = m; hours = decimal_at s (at + 1) 2; minutes = decimal_at s (at + 3) 2 }
 
-  shift_digits : Tied (shift_form m p) (cond (eqb (digits_in (drop (at + 1) s)) 4) (some (four, at + 5)) none) at (at + suc (length p))
+  shift_digits : Tied (shift_form m p) (cond (eqb (digits_in (drop (at + 1) s)) 4) (Some (four, at + 5)) None) at (at + suc (length p))
   unfolding shift_form four
   shift_digits =
       tied_by (shift_form m p) four (at + 5) at (at + suc (length p)) (omega arith) (eqb (digits_in (drop (at + 1) s)) 4)
@@ -166,7 +164,7 @@ module _ (s : List ℕ) (at : ℕ) (p tail : List ℕ) (m : Bool) (stops : digit
       count : length p ≡ 4 → eqb (digits_in (drop (at + 1) s)) 4 ≡ all_of is_digit p
       count l = ap (λ (t : List ℕ). eqb (digits_in t) 4) here ∙ exactly p tail 4 stops (eq-eqb _ _ l)
 
-      by_length : (b : Bool) → eqb (length p) 4 ≡ b → eqb (digits_in (drop (at + 1) s)) 4 ≡ false → shift_form m p ≡ none
+      by_length : (b : Bool) → eqb (length p) 4 ≡ b → eqb (digits_in (drop (at + 1) s)) 4 ≡ false → shift_form m p ≡ None
       by_length true e b = rw (e, sym (count (eqb-true _ _ e)) ∙ b) refl
       by_length false e b = rw e refl
 
@@ -217,7 +215,7 @@ module _ (s : List ℕ) (at : ℕ) (p tail : List ℕ) (stops : digits_in tail �
   form_test : Bool
   form_test = all_of is_digit (take 8 p) && (eqb (get_or p 8 0) 84 && (clock_digits (length (drop 9 p)) && all_of is_digit (drop 9 p)))
 
-  form_none : form_test ≡ false → time_of p ≡ none
+  form_none : form_test ≡ false → time_of p ≡ None
   unfolding time_of form_test
   form_none e = rw e refl
 
@@ -276,7 +274,7 @@ module _ (s : List ℕ) (at : ℕ) (p tail : List ℕ) (stops : digits_in tail �
         second = decimal_at s (at + 13) (9 + clock - 13);
       }
 
-  time_there_lem : time_test ≡ true → length p ≡ 9 + clock → all_of is_digit (drop 9 p) ≡ true → time_of p ≡ some time_there
+  time_there_lem : time_test ≡ true → length p ≡ 9 + clock → all_of is_digit (drop 9 p) ≡ true → time_of p ≡ Some time_there
   unfolding time_of time_there time_test form_test
   time_there_lem b l a =
       let n = clock_digits_lem clock (both_true (eqb (get_or s (at + 8) 0) 84) _ (both_true (eqb (digits_in (drop at s)) 8) _ b).1).1 in
@@ -295,7 +293,7 @@ module _ (s : List ℕ) (at : ℕ) (p tail : List ℕ) (stops : digits_in tail �
         x,
       ) refl
 
-  time_digits : Tied (time_of p) (cond time_test (some (time_there, at + (9 + clock))) none) at (at + length p)
+  time_digits : Tied (time_of p) (cond time_test (Some (time_there, at + (9 + clock))) None) at (at + length p)
   unfolding form_test
   time_digits =
       tied_by (time_of p) time_there (at + (9 + clock)) at (at + length p) (omega arith) time_test
@@ -310,30 +308,16 @@ module _ (s : List ℕ) (at : ℕ) (p tail : List ℕ) (stops : digits_in tail �
       by_digits true e f g = f e
       by_digits false e f g = g e
 
-      not_all : all_of is_digit (drop 9 p) ≡ false → time_of p ≡ none
+      not_all : all_of is_digit (drop 9 p) ≡ false → time_of p ≡ None
       not_all a = form_none (simp (a, and-false))
 
-      too_short : length p < 9 → time_of p ≡ none
+      too_short : length p < 9 → time_of p ≡ None
       too_short l = form_none (simp (get_or-eq_default p 0 {n = 8} (omega arith), and-false))
 
   pub time_tied : Tied (time_of p) (time_read (time_at s at)) at (at + length p)
   unfolding time_at time_bytes time_test time_there clock
   time_tied = rw (there time_test) time_digits
     where
-      there : (b : Bool)
-          → time_read
-          (cond (ltb 0 (cond b (9 + clock) 0))
-          (Timed.Is
-          (record {
-            year = decimal_at s at 4;
-            month = decimal_at s (at + 4) 2;
-            day = decimal_at s (at + 6) 2;
-            hour = decimal_at s (at + 9) 2;
-            minute = decimal_at s (at + 11) 2;
-            second = decimal_at s (at + 13) (cond b (9 + clock) 0 - 13);
-          })
-          (cursor (at + cond b (9 + clock) 0)))
-          Timed.Not)
-          ≡ cond b (some (time_there, at + (9 + clock))) none
-      there true = rw (lt-ltb 0 (9 + clock) (omega arith)) refl
+      there : (b : Bool) → time_read (time_at_bytes s at (cond b (Some (9 + clock)) None)) ≡ cond b (Some (time_there, at + (9 + clock))) None
+      there true = refl
       there false = refl

@@ -13,3 +13,4 @@ pub mod Named
 pub mod Folding
 pub mod Values
 pub mod Told
+pub mod Chains

@@ -1,7 +1,7 @@
 -- A list read one element after the other, against the form of a whole piece: each of its own pieces is of the elements' form.
+use Rattle.std.specs.Prelude.{Option, None, Some}
 use mathlib.Core.Bool.{true, false}
 use mathlib.Core.List.{List, [], ◌∷◌, ◌++◌}
-use mathlib.Core.Option.{Option, none, some}
 use mathlib.Core.Path.{◌≡◌, refl, sym, ap, ap₂, ◌∙◌}
 use Prim.Native.Nat.{ℕ, zero, suc, ◌+◌, ◌-◌, ◌<◌, ◌≤◌}
 use native.Mathlib.Omega.{arith}
@@ -67,43 +67,43 @@ module _ {A : Type 0} (form : List ℕ → Option A) where
   unfolding each_of
   each_cons p ps o r e f = ap₂ cons_of e f
 
-  pub each_none : each_of form [] ≡ some []
+  pub each_none : each_of form [] ≡ Some []
   unfolding each_of
   each_none = refl
 
 -- an element before a list that is tied
 cons_tied : {A : Type 0} (x : A) (o : Option (List A)) (r : Option (List A × ℕ)) (at from end : ℕ) → at ≤ from → Tied o r from end
-    → Tied (cons_of (some x) o) (before x r) at end
+    → Tied (cons_of (Some x) o) (before x r) at end
 unfolding cons_of
 cons_tied {A} x o r at from end h t = by_cases o r (tied_made (λ (xs : List A). x ∷ xs) o r at from end h t)
   where
     by_cases : (o : Option (List A)) (r : Option (List A × ℕ))
         → Tied (made (λ (xs : List A). x ∷ xs) o) (made_read (λ (xs : List A). x ∷ xs) r) at end
-        → Tied (cons_of (some x) o) (before x r) at end
-    by_cases none none t = t
-    by_cases none (some r) t = t
-    by_cases (some xs) none t = t
-    by_cases (some xs) (some r) t = t
+        → Tied (cons_of (Some x) o) (before x r) at end
+    by_cases None None t = t
+    by_cases None (Some r) t = t
+    by_cases (Some xs) None t = t
+    by_cases (Some xs) (Some r) t = t
 
 -- ---- the list reader
 module _ {A : Type 0} (read : ℕ → Option (A × ℕ)) (separator : ℕ) (s : List ℕ) where
-  list_none : (left at : ℕ) → read at ≡ none → list_at read separator s (suc left) at ≡ none
+  list_none : (left at : ℕ) → read at ≡ None → list_at read separator s (suc left) at ≡ None
   unfolding list_at
   list_none left at e = rw (list_at, e) refl
 
-  list_last_lem : (left at : ℕ) (r : A × ℕ) → read at ≡ some r → eqb (get_or s r.1 0) separator ≡ false
-      → list_at read separator s (suc left) at ≡ some (r.0 ∷ [], r.1)
+  list_last_lem : (left at : ℕ) (r : A × ℕ) → read at ≡ Some r → eqb (get_or s r.1 0) separator ≡ false
+      → list_at read separator s (suc left) at ≡ Some (r.0 ∷ [], r.1)
   unfolding list_at
   list_last_lem left at r e f = rw (list_at, e, f) refl
 
-  list_more : (left at : ℕ) (r : A × ℕ) → read at ≡ some r → get_or s r.1 0 ≡ separator
+  list_more : (left at : ℕ) (r : A × ℕ) → read at ≡ Some r → get_or s r.1 0 ≡ separator
       → list_at read separator s (suc left) at ≡ before r.0 (list_at read separator s left (r.1 + 1))
   unfolding list_at
   list_more left at r e f = rw (list_at, e, eq-eqb _ _ f) refl
 
   -- a single element that was read, tied to a form
-  single : (o : Option (List A)) (r : A × ℕ) (at end : ℕ) → at ≤ r.1 → r.1 ≤ end → (r.1 ≡ end → o ≡ some (r.0 ∷ []))
-      → ((r.1 ≡ end → ⊥) → o ≡ none) → Tied o (some (r.0 ∷ [], r.1)) at end
+  single : (o : Option (List A)) (r : A × ℕ) (at end : ℕ) → at ≤ r.1 → r.1 ≤ end → (r.1 ≡ end → o ≡ Some (r.0 ∷ []))
+      → ((r.1 ≡ end → ⊥) → o ≡ None) → Tied o (Some (r.0 ∷ [], r.1)) at end
   single o r at end a b all part =
       tied_by o (r.0 ∷ []) r.1 at end a true (λ e. b) (λ e. all) (λ e. part) (λ e. let z : ◌≡◌ {A = ℕ} 0 1 = cc in absurd (omega arith))
 
@@ -113,46 +113,46 @@ module _ {A : Type 0} (read : ℕ → Option (A × ℕ)) (separator : ℕ) (s : 
       → Tied (form p) (read at) at (at + length p)) (tail : List ℕ) (stops : Stop tail)
       (other : eqb (get_or tail 0 0) separator ≡ false) where
     -- the form of the whole list where its first element is not read whole
-    not_whole : (at : ℕ) (q : List ℕ) (others : List (List ℕ)) (r : A × ℕ) → Tied (form q) (some r) at (at + length q)
-        → (r.1 ≡ at + length q → ⊥) → each_of form (q ∷ others) ≡ none
+    not_whole : (at : ℕ) (q : List ℕ) (others : List (List ℕ)) (r : A × ℕ) → Tied (form q) (Some r) at (at + length q)
+        → (r.1 ≡ at + length q → ⊥) → each_of form (q ∷ others) ≡ None
     unfolding cons_of
-    not_whole at q others r t n = each_cons form q others none _ (t.whole ∙ whole_part r _ n) refl
+    not_whole at q others r t n = each_cons form q others None _ (t.whole ∙ whole_part r _ n) refl
 
     -- an element that ends inside its piece: no separator stands there
     inside : (left at : ℕ) (q rest : List ℕ) (others : List (List ℕ)) (end : ℕ) (r : A × ℕ) → drop at s ≡ q ++ rest → Whole separator q
-        → read at ≡ some r → Tied (form q) (some r) at (at + length q) → r.1 < at + length q → at + length q ≤ end
+        → read at ≡ Some r → Tied (form q) (Some r) at (at + length q) → r.1 < at + length q → at + length q ≤ end
         → Tied (each_of form (q ∷ others)) (list_at read separator s (suc left) at) at end
     inside left at q rest others end r here whole e t l g =
         let i = t.inside r refl in
         rw (list_last_lem left at r e (piece_byte s at q rest r.1 here i.0 l (λ (x : ℕ). eqb x separator ≡ false) whole))
         (single _ r at end i.0 (omega arith) (λ (q : r.1 ≡ end). absurd (omega arith)) (λ n. not_whole at q others r t (λ (m : r.1 ≡ at + length q). omega arith)))
 
-    no_first : (left at : ℕ) (q : List ℕ) (others : List (List ℕ)) (end : ℕ) → read at ≡ none → Tied (form q) none at (at + length q)
+    no_first : (left at : ℕ) (q : List ℕ) (others : List (List ℕ)) (end : ℕ) → read at ≡ None → Tied (form q) None at (at + length q)
         → Tied (each_of form (q ∷ others)) (list_at read separator s (suc left) at) at end
     unfolding cons_of
     no_first left at q others end e t =
-        rw (list_none left at e, each_cons form q others none _ (t.whole ∙ whole_none _) refl) (tied_none _ _)
+        rw (list_none left at e, each_cons form q others None _ (t.whole ∙ whole_none _) refl) (tied_none _ _)
 
     -- the last element
     last_tied : (left at : ℕ) (q : List ℕ) → drop at s ≡ q ++ tail → Whole separator q
         → (o : Option (A × ℕ)) → read at ≡ o → Tied (form q) o at (at + length q) → Tied (each_of form (q ∷ [])) (list_at read separator s (suc left) at) at (at + length q)
     unfolding cons_of
-    last_tied left at q here whole none e t = no_first left at q [] _ e t
-    last_tied left at q here whole (some r) e t =
+    last_tied left at q here whole None e t = no_first left at q [] _ e t
+    last_tied left at q here whole (Some r) e t =
         by_order r.1 (at + length q) (λ l. inside left at q tail [] _ r here whole e t l (omega arith))
         (λ g.
         let i = t.inside r refl in
         let m : r.1 ≡ at + length q = omega (arith, i) in
         rw (list_last_lem left at r e (ap (λ (x : ℕ). eqb x separator) (after_byte s at q tail r.1 here m) ∙ other))
-        (single _ r at _ i.0 i.1 (λ n. each_cons form q [] (some r.0) (some []) (t.whole ∙ whole_all r _ m) (each_none form)) (λ n. absurd (n m))))
+        (single _ r at _ i.0 i.1 (λ n. each_cons form q [] (Some r.0) (Some []) (t.whole ∙ whole_all r _ m) (each_none form)) (λ n. absurd (n m))))
 
     -- an element before a separator and a list that is tied
     next_tied : (left at : ℕ) (q rest : List ℕ) → drop at s ≡ q ++ (separator ∷ (rest ++ tail)) → Whole separator q
         → ((from : ℕ) → drop from s ≡ rest ++ tail → Tied (each_of form (pieces separator rest)) (list_at read separator s left from) from (from + length rest))
         → (o : Option (A × ℕ)) → read at ≡ o → Tied (form q) o at (at + length q)
         → Tied (each_of form (q ∷ pieces separator rest)) (list_at read separator s (suc left) at) at (at + length q + 1 + length rest)
-    next_tied left at q rest here whole again none e t = no_first left at q (pieces separator rest) _ e t
-    next_tied left at q rest here whole again (some r) e t =
+    next_tied left at q rest here whole again None e t = no_first left at q (pieces separator rest) _ e t
+    next_tied left at q rest here whole again (Some r) e t =
         by_order r.1 (at + length q)
         (λ l. inside left at q (separator ∷ (rest ++ tail)) (pieces separator rest) _ r here whole e t l (omega arith))
         (λ g.
@@ -162,7 +162,7 @@ module _ {A : Type 0} (read : ℕ → Option (A × ℕ)) (separator : ℕ) (s : 
         let a = again (r.1 + 1) (after_rest s at q (separator ∷ (rest ++ tail)) r.1 here m) in
         rw (
           list_more left at r e (after_byte s at q (separator ∷ (rest ++ tail)) r.1 here m),
-          each_cons form q (pieces separator rest) (some r.0) _ (t.whole ∙ whole_all r _ m) refl,
+          each_cons form q (pieces separator rest) (Some r.0) _ (t.whole ∙ whole_all r _ m) refl,
         )
         (cons_tied r.0 _ _ at (r.1 + 1) _ (omega (arith, i)) (rw n at a)))
 

@@ -1,7 +1,7 @@
 -- Values one after the other between separators, against the form of a whole text that is cut at them.
+use Rattle.std.specs.Prelude.{Option, None, Some}
 use mathlib.Core.Bool.{false}
 use mathlib.Core.List.{List, [], ◌∷◌, ◌++◌}
-use mathlib.Core.Option.{Option, none, some}
 use mathlib.Core.Path.{◌≡◌, refl, ap, ◌∙◌}
 use Prim.Native.Nat.{ℕ, ◌+◌, ◌<◌}
 use native.Mathlib.Omega.{arith}
@@ -17,9 +17,9 @@ use Rattle.words.proofs.Tied.{whole_none, whole_all, whole_part, Tied, tied_none
 
 -- one piece, of the form
 abbrev pub only : {A : Type 0} → (List ℕ → Option A) → List (List ℕ) → Option A
-only form [] = none
+only form [] = None
 only form (p ∷ []) = form p
-only form (p ∷ q ∷ others) = none
+only form (p ∷ q ∷ others) = None
 
 -- `Stop`: what may stand after a value; its separator may
 module _ {A : Type 0} (separator : ℕ) (s : List ℕ) (form : List ℕ → Option A) (read : ℕ → Option (A × ℕ)) (Stop : List ℕ → Type 0) (stop : (rest : List ℕ) → Stop (separator ∷ rest))
@@ -44,15 +44,15 @@ module _ {A : Type 0} (separator : ℕ) (s : List ℕ) (form : List ℕ → Opti
 
   -- a value, its separator, and what follows: `next` is the form of the pieces after it
   module _ {B : Type 0} (whole : List (List ℕ) → Option B) (next : A → List (List ℕ) → Option B) (then : A → ℕ → Option (B × ℕ))
-      (no_first : (q : List ℕ) (ps : List (List ℕ)) → form q ≡ none → whole (q ∷ ps) ≡ none)
-      (first : (q : List ℕ) (ps : List (List ℕ)) (a : A) → form q ≡ some a → whole (q ∷ ps) ≡ next a ps)
-      (alone : (a : A) → next a [] ≡ none)
+      (no_first : (q : List ℕ) (ps : List (List ℕ)) → form q ≡ None → whole (q ∷ ps) ≡ None)
+      (first : (q : List ℕ) (ps : List (List ℕ)) (a : A) → form q ≡ Some a → whole (q ∷ ps) ≡ next a ps)
+      (alone : (a : A) → next a [] ≡ None)
       (again : (a : A) (from : ℕ) (rest : List ℕ) → drop from s ≡ rest ++ tail
       → Tied (next a (pieces separator rest)) (then a from) from (from + length rest))
       (other : eqb (get_or tail 0 0) separator ≡ false) where
     -- the value ends inside its piece, where no separator stands
     inside : (at : ℕ) (q rest : List ℕ) (others : List (List ℕ)) (end : ℕ) (r : A × ℕ) → drop at s ≡ q ++ rest → Whole separator q
-        → Tied (form q) (some r) at (at + length q) → r.1 < at + length q → Tied (whole (q ∷ others)) (then_at separator s then (some r)) at end
+        → Tied (form q) (Some r) at (at + length q) → r.1 < at + length q → Tied (whole (q ∷ others)) (then_at separator s then (Some r)) at end
     inside at q rest others end r here whole-piece t l =
         let i = t.inside r refl in
         rw (
@@ -64,8 +64,8 @@ module _ {A : Type 0} (separator : ℕ) (s : List ℕ) (form : List ℕ → Opti
     by_read : (at : ℕ) (q t : List ℕ) (others : List (List ℕ)) (p : List ℕ) → drop at s ≡ p ++ tail → p ≡ q ++ t → After separator t others
         → Whole separator q
         → (o : Option (A × ℕ)) → Tied (form q) o at (at + length q) → Tied (whole (q ∷ others)) (then_at separator s then o) at (at + length p)
-    by_read at q t others p here e a whole-piece none k = rw (no_first q others (k.whole ∙ whole_none _)) (tied_none at _)
-    by_read at q t others p here e ended whole-piece (some r) k =
+    by_read at q t others p here e a whole-piece None k = rw (no_first q others (k.whole ∙ whole_none _)) (tied_none at _)
+    by_read at q t others p here e ended whole-piece (Some r) k =
         let f = cut_here q [] tail here e in
         let i = k.inside r refl in
         by_order r.1 (at + length q) (λ l. inside at q tail [] _ r f whole-piece k l)
@@ -76,7 +76,7 @@ module _ {A : Type 0} (separator : ℕ) (s : List ℕ) (form : List ℕ → Opti
           first q [] r.0 (k.whole ∙ whole_all r _ m),
           alone r.0,
         ) (tied_none at _))
-    by_read at q t others p here e (more rest) whole-piece (some r) k =
+    by_read at q t others p here e (more rest) whole-piece (Some r) k =
         let f = cut_here q (separator ∷ rest) tail here e in
         let i = k.inside r refl in
         by_order r.1 (at + length q) (λ l. inside at q _ (pieces separator rest) _ r f whole-piece k l)

@@ -1,15 +1,15 @@
 -- A word compared byte by byte.
+use Rattle.std.specs.Prelude.{Option, None, Some}
 use mathlib.Core.Bool.{Bool, true, false, cond}
 use mathlib.Core.List.{List, ◌∷◌}
 use mathlib.Core.Path.{◌≡◌, refl, sym, ap, ap₂, ◌∙◌}
 use Prim.Native.Nat.{ℕ, suc, ◌+◌, ◌<◌, ◌≤◌}
 use native.Mathlib.Omega.{arith}
+use borrow.Author.Tests.{eq-eqb, ne_eqb}
 use lib.ListN.{length, get_or, drop, drop_of_length-le}
 use lib.Seq.{drop-cons}
-use borrow.Author.Tests.{eq-eqb, ne_eqb}
 use Rattle.words.specs.Reads.{cursor, starts_with, word_at}
 use Rattle.words.specs.declared.cursor.Cursor.{Cursor}
-use Rattle.words.specs.declared.cursor.Worded.{Worded}
 
 cons_same : {x y : ℕ} (w s : List ℕ) → y ≡ x → starts_with (x ∷ w) (y ∷ s) ≡ starts_with w s
 unfolding starts_with
@@ -41,26 +41,26 @@ module _ (w s : List ℕ) (at i : ℕ) where
 
 -- a word that was read, or not
 module _ (w s : List ℕ) (at : ℕ) where
-  place_in : Worded → Cursor
-  place_in (Worded.Is c) = c
-  place_in Worded.Not = cursor 0
+  place_in : Option Cursor → Cursor
+  place_in (Some c) = c
+  place_in None = cursor 0
 
-  pub word_is : (c : Cursor) → word_at w s at ≡ Worded.Is c → (starts_with w (drop at s) ≡ true) × (c ≡ cursor (at + length w))
+  pub word_is : (c : Cursor) → word_at w s at ≡ Some c → (starts_with w (drop at s) ≡ true) × (c ≡ cursor (at + length w))
   unfolding word_at place_in
   word_is c e = by_start (starts_with w (drop at s)) refl e
     where
       by_start : (b : Bool) → starts_with w (drop at s) ≡ b
-          → cond (starts_with w (drop at s)) (Worded.Is (cursor (at + length w))) Worded.Not ≡ Worded.Is c
+          → cond (starts_with w (drop at s)) (Some (cursor (at + length w))) None ≡ Some c
           → (starts_with w (drop at s) ≡ true) × (c ≡ cursor (at + length w))
       by_start true f e = (f, sym (ap place_in (rw f at e)))
-      by_start false f e = let g : Worded.Not ≡ Worded.Is c = rw f at e in let z : ◌≡◌ {A = ℕ} 0 1 = cc in absurd (omega arith)
+      by_start false f e = let g : None ≡ Some c = rw f at e in let z : ◌≡◌ {A = ℕ} 0 1 = cc in absurd (omega arith)
 
-  pub word_not : word_at w s at ≡ Worded.Not → starts_with w (drop at s) ≡ false
+  pub word_not : word_at w s at ≡ None → starts_with w (drop at s) ≡ false
   unfolding word_at
   word_not e = by_start (starts_with w (drop at s)) refl e
     where
       by_start : (b : Bool) → starts_with w (drop at s) ≡ b
-          → cond (starts_with w (drop at s)) (Worded.Is (cursor (at + length w))) Worded.Not ≡ Worded.Not → starts_with w (drop at s) ≡ false
+          → cond (starts_with w (drop at s)) (Some (cursor (at + length w))) None ≡ None → starts_with w (drop at s) ≡ false
       by_start true f e =
-          let g : Worded.Is (cursor (at + length w)) ≡ Worded.Not = rw f at e in let z : ◌≡◌ {A = ℕ} 0 1 = cc in absurd (omega arith)
+          let g : Some (cursor (at + length w)) ≡ None = rw f at e in let z : ◌≡◌ {A = ℕ} 0 1 = cc in absurd (omega arith)
       by_start false f e = f

@@ -1,7 +1,7 @@
 -- A reader at a place and the form of a whole piece: the piece is of the form exactly if the reader takes all of it.
+use Rattle.std.specs.Prelude.{Option, None, Some}
 use mathlib.Core.Bool.{Bool, true, false, cond, ◌&&◌, and-true, and-false}
 use mathlib.Core.List.{List, [], ◌∷◌, ◌++◌}
-use mathlib.Core.Option.{Option, none, some}
 use mathlib.Core.Path.{◌≡◌, refl, sym, ap, ◌∙◌}
 use Prim.Native.Nat.{ℕ, suc, ◌+◌, ◌<◌, ◌≤◌}
 use native.Mathlib.Omega.{arith}
@@ -14,7 +14,6 @@ use Rattle.zone.proofs.Good.{by_order}
 use Rattle.sheet.specs.Words.{is_digit, decimal, number_of}
 use Rattle.words.specs.Answers.{made_read, number_read}
 use Rattle.words.specs.Reads.{cursor, digits_in, decimal_at, number_at}
-use Rattle.words.specs.declared.cursor.Number.{Number}
 
 -- ---- digits of a piece
 pub all_digits : (p tail : List ℕ) → all_of is_digit p ≡ true → digits_in tail ≡ 0 → digits_in (p ++ tail) ≡ length p
@@ -41,58 +40,58 @@ some_digits (c ∷ p) tail a = by_digit (is_digit c) refl a (some_digits p tail)
 
 -- ---- what a reader took, with the place after it, as the form of a whole piece that ends at a place
 unfoldable pub whole_read : {A : Type 0} → Option (A × ℕ) → ℕ → Option A
-whole_read none end = none
-whole_read (some r) end = cond (eqb r.1 end) (some r.0) none
+whole_read None end = None
+whole_read (Some r) end = cond (eqb r.1 end) (Some r.0) None
 
-read_whole : {A : Type 0} (b : Bool) (v : A) (end : ℕ) → whole_read (cond b (some (v, end)) none) end ≡ cond b (some v) none
+read_whole : {A : Type 0} (b : Bool) (v : A) (end : ℕ) → whole_read (cond b (Some (v, end)) None) end ≡ cond b (Some v) None
 unfolding whole_read
 read_whole true v end = rw (eq-eqb end end refl) refl
 read_whole false v end = refl
 
-read_part : {A : Type 0} (b : Bool) (v : A) (e end : ℕ) → (e ≡ end → ⊥) → whole_read (cond b (some (v, e)) none) end ≡ none
+read_part : {A : Type 0} (b : Bool) (v : A) (e end : ℕ) → (e ≡ end → ⊥) → whole_read (cond b (Some (v, e)) None) end ≡ None
 unfolding whole_read
 read_part true v e end q = rw (ne_eqb e end q) refl
 read_part false v e end q = refl
 
-pub whole_none : {A : Type 0} (end : ℕ) → whole_read {A = A} none end ≡ none
+pub whole_none : {A : Type 0} (end : ℕ) → whole_read {A = A} None end ≡ None
 unfolding whole_read
 whole_none end = refl
 
-pub whole_all : {A : Type 0} (r : A × ℕ) (end : ℕ) → r.1 ≡ end → whole_read (some r) end ≡ some r.0
+pub whole_all : {A : Type 0} (r : A × ℕ) (end : ℕ) → r.1 ≡ end → whole_read (Some r) end ≡ Some r.0
 unfolding whole_read
 whole_all r end e = rw (eq-eqb _ _ e) refl
 
-pub whole_part : {A : Type 0} (r : A × ℕ) (end : ℕ) → (r.1 ≡ end → ⊥) → whole_read (some r) end ≡ none
+pub whole_part : {A : Type 0} (r : A × ℕ) (end : ℕ) → (r.1 ≡ end → ⊥) → whole_read (Some r) end ≡ None
 unfolding whole_read
 whole_part r end e = rw (ne_eqb _ _ e) refl
 
 -- a reader and the form of a whole piece, which stands from `at` to `end`
 pub record Tied {A : Type 0} (form : Option A) (read : Option (A × ℕ)) (at end : ℕ) : Type 0 where
   pub whole : form ≡ whole_read read end
-  pub inside : (r : A × ℕ) → read ≡ some r → (at ≤ r.1) × (r.1 ≤ end)
+  pub inside : (r : A × ℕ) → read ≡ Some r → (at ≤ r.1) × (r.1 ≤ end)
 
 -- ---- a number
-number_read_lem : (b : Bool) (v e : ℕ) → number_read (cond b (Number.Is v (cursor e)) Number.Not) ≡ cond b (some (v, e)) none
+number_read_lem : (b : Bool) (v e : ℕ) → number_read (cond b (Some (v, cursor e)) None) ≡ cond b (Some (v, e)) None
 number_read_lem true v e = refl
 number_read_lem false v e = refl
 
 pub read_place : {A : Type 0} (b : Bool) (v : A) (r : A × ℕ) (e at end : ℕ) → at ≤ e → e ≤ end
-    → cond {A = Option (A × ℕ)} b (some (v, e)) none ≡ some r → (at ≤ r.1) × (r.1 ≤ end)
+    → cond {A = Option (A × ℕ)} b (Some (v, e)) None ≡ Some r → (at ≤ r.1) × (r.1 ≤ end)
 read_place {A} true v r e at end g h q = (omega (arith, ap place_of q), omega (arith, ap place_of q))
   where
     place_of : Option (A × ℕ) → ℕ
-    place_of none = 0
-    place_of (some r) = r.1
+    place_of None = 0
+    place_of (Some r) = r.1
 read_place false v r e at end g h q = let z : ◌≡◌ {A = ℕ} 0 1 = cc in absurd (omega arith)
 
 -- nothing is of the form, and nothing is read
-pub tied_none : {A : Type 0} (at end : ℕ) → Tied {A = A} none none at end
+pub tied_none : {A : Type 0} (at end : ℕ) → Tied {A = A} None None at end
 tied_none at end = record { whole = sym (whole_none end); inside = λ r q. let z : ◌≡◌ {A = ℕ} 0 1 = cc in absurd (omega arith) }
 
 -- what is read ends inside: the whole is not of the form
-pub tied_short : {A : Type 0} (o : Option A) (r : Option (A × ℕ)) (at mid end : ℕ) → Tied o r at mid → mid < end → Tied none r at end
-tied_short o none at mid end t h = tied_none at end
-tied_short o (some r) at mid end t h =
+pub tied_short : {A : Type 0} (o : Option A) (r : Option (A × ℕ)) (at mid end : ℕ) → Tied o r at mid → mid < end → Tied None r at end
+tied_short o None at mid end t h = tied_none at end
+tied_short o (Some r) at mid end t h =
     let i = t.inside r refl in
     record {
       whole = sym (whole_part r end (λ (q : r.1 ≡ end). omega (arith, i)));
@@ -105,29 +104,29 @@ tied_from o r at from end h t = record { whole = t.whole; inside = λ x q. let j
 
 -- a value made of what was read, and of the form
 abbrev pub made : {A B : Type 0} → (A → B) → Option A → Option B
-made f none = none
-made f (some a) = some (f a)
+made f None = None
+made f (Some a) = Some (f a)
 
 pub tied_made : {A B : Type 0} (f : A → B) (o : Option A) (r : Option (A × ℕ)) (at from end : ℕ) → at ≤ from → Tied o r from end
     → Tied (made f o) (made_read f r) at end
-tied_made f o none at from end h t = rw (t.whole ∙ whole_none end) (tied_none at end)
-tied_made {A} {B} f o (some r) at from end h t =
+tied_made f o None at from end h t = rw (t.whole ∙ whole_none end) (tied_none at end)
+tied_made {A} {B} f o (Some r) at from end h t =
     let i = t.inside r refl in
     by_order r.1 end (λ l. rw (t.whole ∙ whole_part r end (λ (q : r.1 ≡ end). omega arith)) (record { whole = sym (whole_part (f r.0, r.1) end (λ (q : r.1 ≡ end). omega arith)); inside = place (omega (arith, i)) i.1 }))
     (λ l. let q : r.1 ≡ end = omega (arith, i) in rw (t.whole ∙ whole_all r end q) (record { whole = sym (whole_all (f r.0, r.1) end q); inside = place (omega (arith, i)) i.1 }))
   where
     place_of : Option (B × ℕ) → ℕ
-    place_of none = 0
-    place_of (some z) = z.1
+    place_of None = 0
+    place_of (Some z) = z.1
 
-    place : at ≤ r.1 → r.1 ≤ end → (y : B × ℕ) → some (f r.0, r.1) ≡ some y → (at ≤ y.1) × (y.1 ≤ end)
+    place : at ≤ r.1 → r.1 ≤ end → (y : B × ℕ) → Some (f r.0, r.1) ≡ Some y → (at ≤ y.1) × (y.1 ≤ end)
     place a b y e = let q = ap place_of e in (omega (arith, q), omega (arith, q))
 
 -- a reader that takes v up to e where a test holds
 module _ {A : Type 0} (form : Option A) (v : A) (e at end : ℕ) (low : at ≤ e) where
-  pub tied_by : (b : Bool) → (b ≡ true → e ≤ end) → (b ≡ true → e ≡ end → form ≡ some v) → (b ≡ true → (e ≡ end → ⊥) → form ≡ none)
-      → (b ≡ false → form ≡ none)
-      → Tied form (cond b (some (v, e)) none) at end
+  pub tied_by : (b : Bool) → (b ≡ true → e ≤ end) → (b ≡ true → e ≡ end → form ≡ Some v) → (b ≡ true → (e ≡ end → ⊥) → form ≡ None)
+      → (b ≡ false → form ≡ None)
+      → Tied form (cond b (Some (v, e)) None) at end
   tied_by true high all part not =
       record {
         whole = by_order e end (λ l. part refl (λ q. omega arith) ∙ sym (whole_part (v, e) end (λ (q : e ≡ end). omega arith)))

@@ -1,44 +1,25 @@
 // Decimal digits in a line.
-ghost use Rattle.std.specs.Prelude.{◌≡◌, ◌+◌, ◌≤◌, length, drop};
-ghost use Rattle.words.specs.Reads.{digits_in, decimal_at};
+ghost use Rattle.std.specs.Prelude.{◌≡◌, ◌+◌, ◌≤◌, length};
+ghost use Rattle.std.specs.Char.{is_ascii_digit};
+ghost use Rattle.std.specs.List.{prefix_len};
+ghost use Rattle.words.specs.Reads.{decimal_at};
 
-use calendar::num;
-
-const ZERO: u64 = 48;
-
-const NINE: u64 = 57;
-
-// A byte as a number.
-pub fn wide(c: u8) -> u64
-    ensures { result ≡ c }
+// How many digits a text begins with.
+pub(crate) fn digits_in(t: &[u8]) -> usize
+    ensures { result ≡ prefix_len is_ascii_digit t.now }
 {
-    c as u64
-}
-
-// How many digits stand from a place on.
-pub(crate) fn digits_in(s: &[u8], at: usize) -> usize
-    ensures { result ≡ digits_in (drop at s.now) }
-{
-    let mut i = at;
-    while i < s.len() {
-        if !num::lies_within(ZERO, NINE, wide(s[i])) {
-            return i - at;
-        }
-        i += 1;
-    }
-    i - at
+    t.iter().take_while(|c| c.is_ascii_digit()).count()
 }
 
 // The number that n digits from a place on write.
+#[tactic(auto, using(crate::proofs::Counting::passing), unfolding(crate::specs::Reads::decimal_at))]
 pub(crate) fn decimal(s: &[u8], at: usize, n: usize) -> u64
     requires { (n ≤ 4) × (at + n ≤ length s.now) }
     ensures { result ≡ decimal_at s.now at n }
 {
     let mut v = 0;
-    let mut i = 0;
-    while i < n {
-        v = 10 * v + num::minus(wide(s[at + i]), ZERO);
-        i += 1;
+    for c in &s[at..at + n] {
+        v = 10 * v + u64::from(c.saturating_sub(b'0'));
     }
     v
 }

@@ -1,7 +1,6 @@
 // Pieces of a sheet line, read at a cursor: numbers, signs, times, offsets and words.
 #![tactic(auto)]
 
-pub mod choice;
 pub mod cursor;
-pub mod digits;
+mod digits;
 pub mod times;

@@ -3,8 +3,7 @@ ghost use Rattle.std.specs.Prelude.{◌≡◌};
 ghost use Rattle.words.specs.Times.{local_minute, offset_from};
 
 use crate::cursor::{Shift, Time};
-use calendar::date::{Day, day_of_date};
-use calendar::num::lies_within;
+use calendar::date::day_of_date;
 use calendar::window;
 
 const FIRST_YEAR: u64 = 2000;
@@ -23,59 +22,38 @@ const MOST_AHEAD: u64 = 840;
 
 const HOURS_PAST: u64 = 15;
 
-#[derive(Clone, Copy)]
-pub enum Minute {
-    Is(u64),
-    Outside,
-}
-
-// The local minute of a time.
-pub fn local_minute(t: Time) -> Minute
+// The local minute of a time, if it is in range.
+#[tactic(auto, using(crate::proofs::Values::minutes), unfolding(crate::specs::Times::local_minute))]
+pub fn local_minute(t: Time) -> Option<u64>
     ensures { result ≡ local_minute t }
 {
-    if !lies_within(FIRST_YEAR, LAST_YEAR, t.year) {
-        return Minute::Outside;
+    if !(FIRST_YEAR..=LAST_YEAR).contains(&t.year) {
+        return None;
     }
-    if LAST_HOUR < t.hour {
-        return Minute::Outside;
+    if LAST_HOUR < t.hour || LAST_MINUTE < t.minute || 0 < t.second {
+        return None;
     }
-    if LAST_MINUTE < t.minute {
-        return Minute::Outside;
-    }
-    if 0 < t.second {
-        return Minute::Outside;
-    }
-    let Day::Is(day) = day_of_date(t.year, t.month, t.day) else {
-        return Minute::Outside;
-    };
-    Minute::Is(window::DAY * (day - window::FIRST_DAY) + (HOUR * t.hour + t.minute))
+    let day = day_of_date(t.year, t.month, t.day)?;
+    Some(window::DAY * (day - window::FIRST_DAY) + (HOUR * t.hour + t.minute))
 }
 
-#[derive(Clone, Copy)]
-pub enum Offset {
-    Is(u64),
-    Outside,
-}
-
-// An offset, moved up by a day.
-pub fn offset_of(s: Shift) -> Offset
+// An offset moved up by a day, if it is in range.
+#[tactic(auto, using(crate::proofs::Values::offsets), unfolding(crate::specs::Times::offset_from))]
+pub fn offset_of(s: Shift) -> Option<u64>
     ensures { result ≡ offset_from s }
 {
-    if HOURS_PAST <= s.hours {
-        return Offset::Outside;
-    }
-    if LAST_MINUTE < s.minutes {
-        return Offset::Outside;
+    if HOURS_PAST <= s.hours || LAST_MINUTE < s.minutes {
+        return None;
     }
     let all = HOUR * s.hours + s.minutes;
     if s.minus {
-        if !lies_within(1, MOST_BEHIND, all) {
-            return Offset::Outside;
+        if !(1..=MOST_BEHIND).contains(&all) {
+            return None;
         }
-        return Offset::Is(zone::BIAS - all);
+        return Some(zone::BIAS - all);
     }
     if MOST_AHEAD < all {
-        return Offset::Outside;
+        return None;
     }
-    Offset::Is(zone::BIAS + all)
+    Some(zone::BIAS + all)
 }

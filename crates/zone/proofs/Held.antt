@@ -1,35 +1,42 @@
--- The transitions that a zone holds in its array of 32.
+-- The transitions that count, the stretch after each of them, and how many a zone holds.
 use mathlib.Core.List.{List, [], ◌∷◌, ◌++◌}
 use mathlib.Core.Path.{◌≡◌, refl, sym, ap, ◌∙◌}
 use Prim.Native.Nat.{ℕ, zero, suc, ◌+◌, ◌-◌, ◌<◌, ◌≤◌, min}
+use native.Mathlib.Numerals.{add-one}
 use native.Mathlib.Omega.{arith}
-use lib.ListN.{length, get_or, take, drop, length-take, drop_of_length-le}
-use lib.Seq.{take_all, take-suc, take-take, get_or-take}
-use denote.Laws.{Is}
-use denote.Struct.Declared.{row}
-use denote.Struct.Laws.{val}
+use lib.ListN.{length, get_or, take, length-take}
+use lib.Seq.{take_all, take-suc, take-take}
 use Rattle.zone.specs.Held.{offsets_of}
 use Rattle.zone.specs.Stretches.{offset_after, boundary, end_in, stretch_offset}
+use Rattle.zone.specs.Zone.{Offsets}
 use Rattle.zone.specs.declared.Transition.{Transition}
 use Rattle.zone.specs.declared.Zone.{Zone}
 use Rattle.zone.proofs.Good.{by_order}
-use Rattle.zone.proofs.Over.{nth, left_from}
+use Rattle.zone.proofs.Over.{nth}
+use denote.Laws.{Is}
+use denote.Struct.Declared.{row}
+use denote.Struct.Laws.{val}
 use Rattle.zone.specs.contracts.Zone.{the_type}
 use Rattle.zone.proofs.Zone.TheLaws.{the_laws}
 
--- what is known of a zone that a function is passed
-abbrev pub Passed : Zone → Type 0
-Passed z = Is (row the_type) z (val the_type the_laws z ∷ [])
-
 -- the transition in place k
-abbrev pub held_at : Zone → ℕ → Transition
+abbrev pub held_at : Offsets → ℕ → Transition
 held_at z k = nth z.changes k
 
--- the last of k transitions
+-- the last of some transitions
 offset_last : (offset : ℕ) (ts : List Transition) (t : Transition) → offset_after offset (ts ++ (t ∷ [])) ≡ t.offset
 unfolding offset_after
 offset_last offset [] t = refl
 offset_last offset (u ∷ ts) t = offset_last u.offset ts t
+
+-- the same, where it is looked up from the end
+offset_end : (offset : ℕ) (ts : List Transition) (n : ℕ) (t : Transition) → length ts ≡ suc n → t ≡ get_or ts n t → offset_after offset ts ≡ t.offset
+unfolding offset_after
+offset_end offset [] n t l e = absurd (omega arith)
+offset_end offset (u ∷ []) zero t l e = ap (λ (t : Transition). t.offset) (sym e)
+offset_end offset (u ∷ []) (suc n) t l e = absurd (omega arith)
+offset_end offset (u ∷ v ∷ ts) zero t l e = absurd (omega arith)
+offset_end offset (u ∷ v ∷ ts) (suc n) t l e = offset_end u.offset (v ∷ ts) n t (omega arith) e
 
 -- where stretch k ends, by its offset and the transition after it
 end_is : (offset : ℕ) (ts : List Transition) (k : ℕ) (d : Transition)
@@ -39,61 +46,62 @@ end_is offset [] k d l = absurd (omega arith)
 end_is offset (t ∷ ts) zero d l = refl
 end_is offset (t ∷ ts) (suc k) d l = end_is t.offset ts k d (omega arith)
 
+module _ (z : Offsets) where
+  -- the offset of the first stretch, and of that after transition k
+  pub first_offset : stretch_offset z 0 ≡ z.first
+  unfolding stretch_offset offset_after
+  first_offset = refl
+
+  pub held_offset : (k : ℕ) → k < length z.changes → stretch_offset z (k + 1) ≡ (held_at z k).offset
+  unfolding stretch_offset
+  held_offset k l = rw add-one (ap (offset_after z.first) (take-suc z.changes k _ l) ∙ offset_last z.first (take k z.changes) _)
+
+  -- the first k of them, or all
+  first_of : (k : ℕ) → take k z.changes ≡ take (min k (length z.changes)) z.changes
+  first_of k =
+      by_order (length z.changes) k
+      (λ l. let e : min k (length z.changes) ≡ length z.changes = omega arith in rw e (take_all k z.changes (omega arith) ∙ sym (take_all (length z.changes) z.changes (omega arith))))
+      (λ l. let e : min k (length z.changes) ≡ k = omega arith in rw e refl)
+
+  -- the offset of stretch k by the last of them
+  pub offset_none : (k n : ℕ) → n ≡ min k (length z.changes) → length (take n z.changes) ≤ 0 → z.first ≡ stretch_offset z k
+  unfolding stretch_offset offset_after
+  offset_none k n e l =
+      let h : n ≡ 0 = omega (arith, length-take n z.changes) in
+      sym (ap (offset_after z.first) (first_of k ∙ ap (λ (n : ℕ). take n z.changes) (sym e ∙ h)))
+
+  pub offset_some : (k n : ℕ) (t : Transition)
+      → n ≡ min k (length z.changes) → 0 < length (take n z.changes) → t ≡ get_or (take n z.changes) (length (take n z.changes) - 1) t
+      → t.offset ≡ stretch_offset z k
+  unfolding stretch_offset
+  offset_some k n t e l h =
+      sym (ap (offset_after z.first) (first_of k ∙ ap (λ (n : ℕ). take n z.changes) (sym e)) ∙ offset_end z.first (take n z.changes) _ t (omega arith) h)
+
+  -- the end of stretch k
+  pub held_end : (k : ℕ) → k < length z.changes → end_in z.first z.changes k ≡ boundary (stretch_offset z k) (held_at z k)
+  unfolding stretch_offset
+  held_end k l = end_is z.first z.changes k _ l
+
 -- a part of a part from the front
 take_both : (k n : ℕ) (l : List Transition) → take k (take n l) ≡ take (min k n) l
 take_both k n l =
     by_order n k (λ b. let e : min k n ≡ n = omega arith in rw e (take_all k (take n l) (omega (arith, length-take n l))))
     (λ b. let e : min k n ≡ k = omega arith in rw e (take-take k n l (omega arith)))
 
-module _ (z : Zone) (passed : Passed z) where
-  pub whole : length z.changes ≡ 32
-  whole = passed.1.1.1.1.0.1.0.1
-
+module _ (z : Zone) (whole : length z.changes ≡ 32) where
   pub held_length : length (offsets_of z).changes ≡ min z.count 32
   unfolding offsets_of
-  held_length = omega (arith, whole, length-take z.count z.changes)
+  held_length = omega (arith, length-take z.count z.changes)
 
   pub held_front : (offsets_of z).changes ≡ take (min z.count 32) z.changes
   unfolding offsets_of
   held_front =
-      ap (λ (l : List Transition). take z.count l) (sym (take_all 32 z.changes (omega (arith, whole))))
+      ap (λ (l : List Transition). take z.count l) (sym (take_all 32 z.changes (omega arith)))
       ∙ take_both z.count 32 z.changes
 
-  held_take : (k : ℕ) → take k (offsets_of z).changes ≡ take (min k (min z.count 32)) z.changes
-  held_take k = ap (λ (l : List Transition). take k l) held_front ∙ take_both k (min z.count 32) z.changes
+-- what is known of a zone that a function is passed: its array is whole
+abbrev pub Passed : Zone → Type 0
+Passed z = Is (row the_type) z (val the_type the_laws z ∷ [])
 
-  -- the first k of them: none, or some and a last one
-  held_none : (k : ℕ) → min k (min z.count 32) ≡ 0 → take k (offsets_of z).changes ≡ []
-  held_none k e = held_take k ∙ ap (λ (n : ℕ). take n z.changes) e
-
-  held_some : (k n : ℕ) → n ≡ min k (min z.count 32) → (n ≡ 0 → ⊥)
-      → take k (offsets_of z).changes ≡ take (n - 1) z.changes ++ (held_at z (n - 1) ∷ [])
-  held_some k n e p =
-      let q : min k (min z.count 32) ≡ suc (n - 1) = omega arith in
-      held_take k ∙ ap (λ (n : ℕ). take n z.changes) q ∙ take-suc z.changes (n - 1) _ (omega (arith, whole))
-
-  -- the offset after the first k
-  pub held_offset_first : (k : ℕ) → min k (min z.count 32) ≡ 0 → stretch_offset (offsets_of z) k ≡ z.first
-  unfolding stretch_offset offset_after offsets_of
-  held_offset_first k e = ap (offset_after z.first) (held_none k e)
-
-  pub held_offset : (k n : ℕ) → n ≡ min k (min z.count 32) → (n ≡ 0 → ⊥) → stretch_offset (offsets_of z) k ≡ (held_at z (n - 1)).offset
-  unfolding stretch_offset offsets_of
-  held_offset k n e p = ap (offset_after z.first) (held_some k n e p) ∙ offset_last z.first (take (n - 1) z.changes) _
-
-  held_at_lem : (k : ℕ) → k < min z.count 32 → nth (offsets_of z).changes k ≡ held_at z k
-  unfolding offsets_of
-  held_at_lem k l = get_or-take z.count z.changes k _ (omega arith)
-
-  -- what is left from place k on
-  pub held_next : (k : ℕ) → k < min z.count 32 → drop k (offsets_of z).changes ≡ held_at z k ∷ drop (k + 1) (offsets_of z).changes
-  held_next k l = rw (← held_at_lem k l) (left_from (offsets_of z).changes k (omega (arith, held_length)))
-
-  pub held_over : (k : ℕ) → min z.count 32 ≤ k → drop k (offsets_of z).changes ≡ []
-  held_over k l = drop_of_length-le (offsets_of z).changes {i = k} (omega (arith, held_length))
-
-  -- the end of stretch k
-  pub held_end : (k : ℕ) → k < min z.count 32
-      → end_in (offsets_of z).first (offsets_of z).changes k ≡ boundary (stretch_offset (offsets_of z) k) (held_at z k)
-  unfolding stretch_offset
-  held_end k l = rw (← held_at_lem k l) (end_is (offsets_of z).first (offsets_of z).changes k _ (omega (arith, held_length)))
+pub whole : (z : Zone) → Passed z → length z.changes ≡ 32
+whole z passed = passed.1.1.1.1.0.1.0.1

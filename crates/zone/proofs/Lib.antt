@@ -5,3 +5,4 @@ pub mod Stretches
 pub mod Shown
 pub mod Held
 pub mod Over
+pub mod Walk

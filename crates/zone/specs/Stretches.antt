@@ -1,9 +1,8 @@
 -- The local minutes in stretches: stretch k has the offset after k transitions, and all its minutes become instants by it.
-use Rattle.std.specs.Prelude.{Bool, true, false, cond, ◌&&◌, ◌||◌, List, [], ◌∷◌, ℕ, zero, suc, ◌+◌, ◌-◌, min, max, leb, ltb, take}
+use Rattle.std.specs.Prelude.{Bool, true, false, cond, ◌&&◌, ◌||◌, List, [], ◌∷◌, ℕ, zero, suc, ◌+◌, ◌-◌, min, max, leb, ltb, take, Option, Some, None}
 use Rattle.calendar.specs.Window.{window_minutes}
 use Rattle.zone.specs.Zone.{Offsets, instant_of, in_window, biases}
 use Rattle.zone.specs.declared.Transition.{Transition}
-use Rattle.zone.specs.declared.stretch.Instant.{Instant}
 
 -- the offset after the transitions
 unfoldable pub offset_after : ℕ → List Transition → ℕ
@@ -46,12 +45,12 @@ unfoldable pub stretch_instant : Offsets → ℕ → ℕ
 stretch_instant z m = m + biases - stretch_offset z (stretch_of z m)
 
 -- the same, or outside the window
-unfoldable pub stretch_local : Offsets → ℕ → Instant
-stretch_local z m = cond (in_window m) (Instant.Is (stretch_instant z m)) Instant.Outside
+unfoldable pub stretch_local : Offsets → ℕ → Option ℕ
+stretch_local z m = cond (in_window m) (Some (stretch_instant z m)) None
 
 -- the instant of a local minute as "Wall clock to instant" has it, or outside the window
-unfoldable pub instant_of_local : Offsets → ℕ → Instant
-instant_of_local z m = cond (in_window m) (Instant.Is (instant_of z m)) Instant.Outside
+unfoldable pub instant_of_local : Offsets → ℕ → Option ℕ
+instant_of_local z m = cond (in_window m) (Some (instant_of z m)) None
 
 -- an instant of the second pass of a doubled hour: with the offset before the transition its minute was shown before it
 unfoldable pub second_pass_in : ℕ → List Transition → ℕ → Bool

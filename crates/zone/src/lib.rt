@@ -5,8 +5,6 @@ ghost use Rattle.std.specs.Prelude.{◌≡◌};
 ghost use Rattle.zone.specs.Zone.{offset_at};
 ghost use Rattle.zone.specs.Held.{offsets_of};
 
-use calendar::num::fewer;
-
 pub mod limits;
 pub mod stretch;
 
@@ -25,7 +23,7 @@ pub struct Transition {
     pub offset: u64,
 }
 
-// The offset before the first transition, and the transitions: the first `count` of `changes`.
+// The offset before the first transition, and the transitions: the first `count` of `changes`, as the C interface of probe has them.
 #[repr(C)]
 #[derive(Clone, Copy)]
 pub struct Zone {
@@ -34,26 +32,34 @@ pub struct Zone {
     pub changes: [Transition; CHANGES],
 }
 
+impl Zone {
+    // The transitions that count.
+    #[tactic(auto, using(crate::proofs::Held::held_front))]
+    pub fn held(&self) -> &[Transition]
+        ensures { result.now ≡ (offsets_of self.now).changes }
+    {
+        &self.changes[..self.count.min(CHANGES)]
+    }
+}
+
 // The offset at an instant, over any transitions.
+#[tactic(auto, using(crate::proofs::Over::at_start, crate::proofs::Over::since, crate::proofs::Over::passed_over, crate::proofs::Over::at_end))]
 pub fn offset_over(changes: &[Transition], first: u64, instant: u64) -> u64
     ensures { result ≡ offset_at (record { first = first; changes = changes.now }) instant }
 {
     let mut offset = first;
-    let mut k: usize = 0;
-    while k < changes.len() {
-        let change = changes[k];
+    for change in changes {
         if change.at <= instant {
             offset = change.offset;
         }
-        k += 1;
     }
     offset
 }
 
-// The offset of a zone at an instant: lends its transitions, as no other function does.
-pub fn offset_at(zone: Zone, instant: u64) -> u64
-    ensures { result ≡ offset_at (offsets_of zone) instant }
+// The offset of a zone at an instant.
+#[tactic(auto, unfolding(crate::specs::Held::offsets_of))]
+pub fn offset_at(zone: &Zone, instant: u64) -> u64
+    ensures { result ≡ offset_at (offsets_of zone.now) instant }
 {
-    let n = fewer(zone.count, CHANGES);
-    offset_over(&zone.changes[..n], zone.first, instant)
+    offset_over(zone.held(), zone.first, instant)
 }

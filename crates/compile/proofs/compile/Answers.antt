@@ -1,4 +1,6 @@
 -- Too long, refused, no room, or the plan.
+use Rattle.std.specs.Prelude.{Result, Ok, Err}
+use Rattle.std.specs.Result.{IsErrAnd}
 use mathlib.Core.Bool.{false}
 use mathlib.Core.List.{List, map}
 use mathlib.Core.Path.{◌≡◌, refl, sym, ap, ◌∙◌}
@@ -13,30 +15,32 @@ use Rattle.plan.proofs.Placing.{whole_length, line_short}
 use Rattle.plan.specs.Rows.{row_of}
 use Rattle.plan.specs.declared.Frame.{Frame}
 use Rattle.sheet.specs.Refusals.{too_long}
-use Rattle.compile.specs.Reading.{sheet_frames, frames_read, read_as, small}
-use Rattle.compile.specs.declared.reading.Gathered.{Gathered}
-use Rattle.compile.proofs.Compiling.{compile_long, compile_refused, short, no_room, rows_places, Made, plan_made}
+use Rattle.compile.specs.Reading.{sheet_frames, frames_read, read_as}
+use Rattle.compile.specs.Reasons.{reason_with}
+use Rattle.compile.specs.declared.Refusal.{Refusal}
+use Rattle.compile.proofs.Compiling.{compile_long, compile_refused, short, no_room, Made, plan_made}
 use Rattle.compile.proofs.compile.Goals as goal
 use Rattle.compile.proofs.compile.Goals.{After-length_of}
 
+passed_on : (r : Result ℕ Refusal) (x : Refusal) → IsErrAnd r (λ y. y ≡ x) → r ≡ Err x
+passed_on (Err y) x g = ap Err g
+passed_on (Ok n) x g = absurd g
+
 pub returns-then-too_long : goal.returns-then-too_long
+unfolding reason_with
 returns-then-too_long c =
     let a = c.args in
     rw (compile_long a.sheet.now (length a.plan.now) (sym c.too_long.ensures ∙ c.if-too_long.true))
-    (record { answer = c.whole.ensures; plan = refl })
+    (record { answer = ap Err c.whole.ensures; plan = refl })
 
-pub read-read-requires : goal.read-read-requires
-read-read-requires c =
-    short c.args.sheet.now
-    (sym c.too_long.ensures ∙ c.if-too_long.false)
+pub read-requires : goal.read-requires
+read-requires c = short c.args.sheet.now (sym c.too_long.ensures ∙ c.if-too_long.false)
 
-pub returns-in_default : goal.returns-in_default
-returns-in_default c =
+pub returns-in_err-frames : goal.returns-in_err-frames
+returns-in_err-frames c =
     let a = c.args in
-    let t = c.in_default.is in
-    rw
-    (compile_refused a.sheet.now (length a.plan.now) (sym c.too_long.ensures ∙ c.if-too_long.false) _ (sym t ∙ c.read-read.ensures.answer))
-    (record { answer = c.refused.ensures ∙ rw t refl; plan = refl })
+    let f = compile_refused a.sheet.now (length a.plan.now) (sym c.too_long.ensures ∙ c.if-too_long.false) _ c.in_err-frames.ensures.answer in
+    rw f.compiled (record { answer = passed_on _ _ c.from_residual.ensures.1 ∙ ap Err f.same; plan = refl })
 
 -- ---- the sheet is taken: what was read of it
 module _ (c : After-length_of) where
@@ -47,27 +51,22 @@ module _ (c : After-length_of) where
   buffer = c.args.plan.now
 
   abbrev count : ℕ
-  count = c.in-Is.frames
+  count = c.in_ok-frames.frames
 
   abbrev bytes : ℕ
-  bytes = c.in-Is.bytes
+  bytes = c.in_ok-frames.bytes
 
   abbrev fresh : List (List ℕ)
   fresh = c.fresh_rows-rows.result
 
   not_long : too_long text ≡ false
-  not_long =
-      sym c.too_long.ensures
-      ∙ c.if-too_long.false
+  not_long = sym c.too_long.ensures ∙ c.if-too_long.false
 
-  is_read : Gathered.Is count bytes ≡ read_as (sheet_frames text)
-  is_read = sym c.in-Is.is ∙ c.read-read.ensures.answer
+  is_read : Ok (count, bytes) ≡ read_as (sheet_frames text)
+  is_read = c.in_ok-frames.ensures.answer
 
   few : (count ≤ 64) × (bytes ≤ 5312)
-  few =
-      let s =
-      both_true (leb count 64) _ (sym (ap small c.in-Is.is) ∙ c.read-read.ensures.small) in
-      (leb-true count 64 s.0, leb-true bytes 5312 s.1)
+  few = let s = both_true (leb count 64) _ c.in_ok-frames.ensures.small in (leb-true count 64 s.0, leb-true bytes 5312 s.1)
 
   places : length fresh ≡ 64
   places = ap length c.fresh_rows-rows.ensures
@@ -81,24 +80,19 @@ pub overflow_add-size : goal.overflow_add-size
 overflow_add-size c = omega (arith, c.length_of.ensures, whole_length (Frame.End (count c)), line_short (Frame.End (count c)), few c)
 
 pub returns-then-plan-size : goal.returns-then-plan-size
+unfolding reason_with
 returns-then-plan-size c =
     let r = (goal.at.returns-then-plan-size c).After-length_of in
     rw
     (no_room (text r) (buffer r) (not_long r) (count r) (bytes r) r.length_of.result (is_read r) r.length_of.ensures (omega arith))
-    (record { answer = c.whole-then-plan-size.ensures; plan = refl })
+    (record { answer = ap Err c.whole-then-plan-size.ensures; plan = refl })
 
 pub write-requires : goal.write-requires
 write-requires c =
-    let r = (goal.at.write-requires c).After-length_of in
-    let k = c.read-read.ensures.rows in
-    record {
-      n_bound = (few r).0;
-      rows_len = rows_places (fresh r) _ (frames_read (text r)) k (places r);
-      n_in_bounds = (made r (omega arith) _ k).fits;
-    }
+    let r = (goal.at.write-requires c).After-length_of in (made r (omega arith) _ c.in_ok-frames.ensures.rows).fits
 
 pub returns : goal.returns
 returns c =
     let r = (goal.at.returns c).After-length_of in
-    let p = made r (omega arith) _ c.read-read.ensures.rows in
+    let p = made r (omega arith) _ c.in_ok-frames.ensures.rows in
     record { answer = p.answer; plan = c.write.ensures ∙ p.left }

@@ -1,12 +1,8 @@
--- What is counted and what is left make the whole.
-use mathlib.Core.Path.{◌≡◌}
-use Prim.Native.Nat.{◌+◌, ◌-◌, ◌≤◌}
-use lib.ListN.{length, drop}
-use Rattle.lines.proofs.Counting.{counted_from}
+-- The LFs so far.
+use Rattle.std.proofs.Common.{◌≡◌, take}
+use Rattle.std.specs.List.{count_by}
+use lib.Dec.{eqb}
 use Rattle.lines.proofs.line_count.Given as goal
 
-abbrev pub invariant-loop-i : goal.invariant-loop-i
-invariant-loop-i l = (counted_from 0 l.text ≡ l.n + counted_from l.tail (drop l.i l.text)) × (l.n + l.tail ≤ l.i) × (l.i ≤ length l.text)
-
-abbrev pub decreases-loop-i : goal.decreases-loop-i
-decreases-loop-i l = length l.text - l.i
+abbrev pub invariant-loop-byte : goal.invariant-loop-byte
+invariant-loop-byte l = l.whole ≡ count_by (λ c. eqb c 10) (take l.byte-index l.text)

@@ -1,27 +1,38 @@
 -- The rows of a plan that is taken are ready, and what is found among them is the answer.
-use mathlib.Core.Path.{sym, ap, ◌∙◌}
-use lib.ListN.{length}
-use Rattle.next.specs.Plans.{AskedIn}
-use Rattle.next.proofs.Ready.{ready, good_ready, answer_ready, answer_refused}
+use mathlib.Core.Path.{◌≡◌, ap, ◌∙◌}
+use native.Mathlib.Omega.{arith}
+use borrow.Author.Rules.{rules}
+use lib.ListN.{length, length-take}
+use Rattle.std.specs.Prelude.{Err}
+use Rattle.zone.specs.Held.{offsets_of}
+use Rattle.zone.specs.Zone.{zone_good}
+use Rattle.next.proofs.Ready.{Ready, ready, answer_taken, answer_refused}
 use Rattle.next.proofs.in_plan.Goals as goal
+use Rattle.next.proofs.in_plan.Goals.{In_ok-count}
+use Rattle.next.proofs.in_plan.Given.{Over}
 
-pub in_rows-requires : goal.in_rows-requires
-in_rows-requires c =
-    let l = c in
-    let p = l.args.plan.now in
-    good_ready p _ _ (ready p _ _ _ (ap length l.fresh_rows-rows.ensures) (sym l.load.ensures.answer ∙ c.in-Taken.is) l.load.ensures.rows)
+-- the rows are ready
+rows_ready : (g : Over) (c : In_ok-count g) → Ready c.args.plan.now c.load.new.rows c.in_ok-count.count
+rows_ready g c = ready _ _ _ _ (ap length c.fresh_rows-rows.ensures) c.in_ok-count.ensures.answer c.in_ok-count.ensures.rows
 
-pub returns-in-Refused : goal.returns-in-Refused
-unfolding AskedIn
-returns-in-Refused c =
-    let l = c in
-    answer_refused _ l.args.plan.now _ (sym l.load.ensures.answer ∙ c.in-Refused.is)
+pub returns-in_err-count : goal.returns-in_err-count
+returns-in_err-count g c =
+    let e : c.from_residual.result ≡ Err c.in_err-count.field-0.0 = search rules in
+    rw e (answer_refused _ c.args.plan.now _ c.in_err-count.ensures.answer)
 
-pub returns-in-Taken : goal.returns-in-Taken
-returns-in-Taken c =
-    let t = c in
-    let l = t in
-    let p = l.args.plan.now in
-    let r =
-    ready p _ _ _ (ap length l.fresh_rows-rows.ensures) (sym l.load.ensures.answer ∙ t.in-Taken.is) l.load.ensures.rows in
-    rw c.answer_of.ensures (answer_ready p _ _ r _ _ c.in_rows.ensures)
+pub slice_bounds-rows-end : goal.slice_bounds-rows-end
+slice_bounds-rows-end g c = omega (arith, (rows_ready g c).fits)
+
+pub slice_bounds-frames-end : goal.slice_bounds-frames-end
+slice_bounds-frames-end g c = omega (arith, c.load.array_long, length-take c.in_ok-count.count c.load.new.rows, (rows_ready g (goal.at.slice_bounds-frames-end g c).In_ok-count).fits)
+
+pub invariant_of-opened : goal.invariant_of-opened
+invariant_of-opened g c =
+    let r = rows_ready g (goal.at.invariant_of-opened g c).In_ok-count in
+    record { limited = rw c.zone_of-zone.ensures (ap zone_good r.zone ∙ r.good) }
+
+pub returns : goal.returns
+returns g c =
+    let r = rows_ready g (goal.at.returns g c).In_ok-count in
+    answer_taken _ c.args.plan.now c.load.new.rows _ r c.ask.result
+    (record { opened = _; held = r.held; zoned = ap offsets_of c.zone_of-zone.ensures ∙ r.zone; answered = c.ask.ensures })

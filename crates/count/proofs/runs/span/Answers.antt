@@ -8,10 +8,8 @@ use Rattle.masks.proofs.Bits.{one_shifted}
 use Rattle.masks.proofs.MaskFroms.{mask_of_own_bits}
 use Rattle.count.proofs.runs.span.Goals as goal
 
-pub nonzero_rem-result : goal.nonzero_rem-result
-nonzero_rem-result c = rw (one_shifted c.args.wide (omega arith)) (pow_pos c.args.wide)
-
 pub returns : goal.returns
-returns c = let a = c.args in
+returns c =
+    let a = c.args in
     rw (one_shifted a.wide (omega arith))
     (shl_exact a.wide a.low 64 (mod-lt (a.mask / 2 ^ a.low) (pow_pos a.wide)) (omega arith) ∙ sym (mask_of_own_bits a.mask a.wide a.low))

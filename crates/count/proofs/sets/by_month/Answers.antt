@@ -1,5 +1,5 @@
 -- No rule; before the start; and where a turn is no longer than its days that count, no day is left out.
-use mathlib.Core.Bool.{false≢true, true≢false}
+use mathlib.Core.Bool.{true≢false}
 use mathlib.Core.Path.{◌≡◌, ◌∙◌}
 use Prim.Native.Nat.{◌/◌, ◌≤◌}
 use native.Mathlib.Omega.{arith}
@@ -14,11 +14,9 @@ pub returns-then-f-ne-RULE : goal.returns-then-f-ne-RULE
 unfolding day_part
 returns-then-f-ne-RULE c = (λ e. record { passes = λ j h t. rw (ne_eqb _ _ c.if-f-ne-RULE.true) }, λ e. absurd (true≢false e))
 
-pub returns-then-d-f : goal.returns-then-d-f
-returns-then-d-f c = (λ e. absurd (false≢true e), λ e. c.if-f-ne-RULE.false)
-
 pub returns : goal.returns
-returns c = let l = c.args.f.now in
+returns c =
+    let l = c.args.f.now in
     let kind = c.if-f-ne-RULE.false in
     let turn = c.turn in (
       λ e.

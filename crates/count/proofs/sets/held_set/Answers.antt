@@ -4,17 +4,8 @@ use Rattle.count.proofs.HeldSets.{by_month_set}
 use Rattle.count.proofs.sets.held_set.Goals as goal
 
 pub returns-then-by_month : goal.returns-then-by_month
-returns-then-by_month c = let s = c in
-    let l = s.args.f.now in
-    let k = s.args.k in
-    by_month_set l k _ (c.month_set-set.ensures ∙ rw (s.requires.0, s.requires.2))
+returns-then-by_month c =
+    let l = c.args.f.now in
+    let k = c.args.k in
+    by_month_set l k _ (c.month_set-set.ensures ∙ rw (c.requires.0, c.requires.2))
     (rw c.month_first.ensures at (c.by_month.ensures.0 c.if-by_month.true))
-
-pub counted_set-requires : goal.counted_set-requires
-counted_set-requires c = let s = c in
-    let l = s.args.f.now in
-    let k = s.args.k in (
-      s.requires.1,
-      c.by_month.ensures.1 c.if-by_month.false,
-      c.month_set-set.ensures ∙ rw (s.requires.0, s.requires.2),
-    )

@@ -7,8 +7,8 @@ use Rattle.days.proofs.Splits.{month_set_of}
 use Rattle.days.proofs.parts.month_mask.Goals as goal
 
 pub returns : goal.returns
-returns c = let s = c in
-    let l = s.args.f.now in
-    let k = s.args.k in
-    let counts = s.requires.0.counted ∙ sym (counts_same l (k / 12) (last_month_in l / 12) s.requires.1.same) in
-    month_set_of l k _ (c.month_set.ensures ∙ rw (s.requires.0.begun, counts))
+returns c =
+    let l = c.args.f.now in
+    let k = c.args.k in
+    let counts = c.requires.0.counted ∙ sym (counts_same l (k / 12) (last_month_in l / 12) c.requires.1.same) in
+    month_set_of l k _ (c.month_set.ensures ∙ rw (c.requires.0.begun, counts))

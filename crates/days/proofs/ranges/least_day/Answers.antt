@@ -8,24 +8,24 @@ use Rattle.days.proofs.ranges.least_day.Goals as goal
 
 pub returns-then-end-low : goal.returns-then-end-low
 unfolding least_day
-returns-then-end-low c = let a = c.args in
-    rw (← c.lesser-end.ensures) (least_empty (day_held a.f.now) a.low c.lesser-end.result c.if-end-low.true)
+returns-then-end-low c =
+    let a = c.args in
+    rw (← c.min-end.ensures) (least_empty (day_held a.f.now) a.low c.min-end.result c.if-end-low.true)
 
 pub returns-then-end-from : goal.returns-then-end-from
 unfolding least_day
-returns-then-end-from c = let a = c.args in
-    let end = c.lesser-end in
+returns-then-end-from c =
+    let a = c.args in
+    let end = c.min-end in
     rw (← end.ensures)
     (least_is (day_held a.f.now) a.low end.result _ (omega arith)
     (least_all_passed (day_held a.f.now) a.low _ end.result c.begun-from.ensures (omega arith) (omega (arith, end.ensures)) c.if-end-from.true))
 
-pub least_from-requires : goal.least_from-requires
-least_from-requires c = (omega arith, omega (arith, c.lesser-end.ensures))
-
 pub returns : goal.returns
 unfolding least_day
-returns c = let a = c.args in
-    let end = c.lesser-end in
+returns c =
+    let a = c.args in
+    let end = c.min-end in
     rw (← end.ensures)
     (least_is (day_held a.f.now) a.low end.result _ (omega arith)
     (least_passed (day_held a.f.now) a.low _ end.result c.begun-from.ensures (omega arith) (omega (arith, end.ensures)) _ (omega arith) c.least_from.ensures))

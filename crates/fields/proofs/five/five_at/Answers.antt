@@ -1,88 +1,42 @@
--- The five fields one after the other.
-use Rattle.fields.proofs.Steps.{last_not, last_is, spaced_not, spaced_is, no_minute, no_hour, no_day, no_month, no_weekday, five_outside, five_is}
+-- The five fields one after the other: the first that is none, or all.
+use Rattle.fields.proofs.Steps.{last_not, last_is, spaced_not, spaced_is, no_minute, no_hour, no_day, no_month, no_weekday, five_is}
 use Rattle.fields.proofs.five.five_at.Goals as goal
 
-pub returns-in_default : goal.returns-in_default
-returns-in_default c =
-    let a = c.args in
-    no_minute a.s.now a.c.at
-    (spaced_not a.s.now 0 59 _ _ c.minute.ensures c.spaced.ensures c.in_default.is)
+pub returns-in_err-minutes : goal.returns-in_err-minutes
+returns-in_err-minutes c =
+    rw c.from_residual.ensures (no_minute _ _ (spaced_not _ 0 59 _ c.in_err-minutes.ensures))
 
-pub returns-in_default-spaced : goal.returns-in_default-spaced
-returns-in_default-spaced c =
-    let a = c.args in
-    let m =
-    spaced_is a.s.now 0 59 _ _ c.minute.ensures c.spaced.ensures c.in-Is.is in
-    no_hour a.s.now a.c.at m
-    (spaced_not a.s.now 0 23 _ _ c.hour.ensures c.spaced-2.ensures c.in_default-spaced.is)
+pub returns-in_err-hours : goal.returns-in_err-hours
+returns-in_err-hours c =
+    let m = spaced_is _ 0 59 _ c.in_ok-minutes.ensures in
+    rw c.from_residual-in_err-hours.ensures (no_hour _ _ m (spaced_not _ 0 23 _ c.in_err-hours.ensures))
 
-pub returns-in_default-spaced-2 : goal.returns-in_default-spaced-2
-returns-in_default-spaced-2 c =
-    let a =
-    c.args in
-    let m =
-    spaced_is a.s.now 0 59 _ _ c.minute.ensures c.spaced.ensures c.in-Is.is in
-    let h =
-    spaced_is a.s.now 0 23 _ _ c.hour.ensures c.spaced-2.ensures c.in-Is-spaced.is in
-    no_day a.s.now a.c.at m h
-    (spaced_not a.s.now 1 31 _ _ c.day_of_month.ensures c.spaced-3.ensures c.in_default-spaced-2.is)
+pub returns-in_err-days : goal.returns-in_err-days
+returns-in_err-days c =
+    let m = spaced_is _ 0 59 _ c.in_ok-minutes.ensures in
+    let h = spaced_is _ 0 23 _ c.in_ok-hours.ensures in
+    rw c.from_residual-in_err-days.ensures (no_day _ _ m h (spaced_not _ 1 31 _ c.in_err-days.ensures))
 
-pub returns-in_default-spaced-3 : goal.returns-in_default-spaced-3
-returns-in_default-spaced-3 c =
-    let a =
-    c.args in
-    let m =
-    spaced_is a.s.now 0 59 _ _ c.minute.ensures c.spaced.ensures c.in-Is.is in
-    let h =
-    spaced_is a.s.now 0 23 _ _ c.hour.ensures c.spaced-2.ensures c.in-Is-spaced.is in
-    let d =
-    spaced_is a.s.now 1 31 _ _ c.day_of_month.ensures c.spaced-3.ensures c.in-Is-spaced-2.is in
-    no_month a.s.now a.c.at m h d
-    (spaced_not a.s.now 1 12 _ _ c.month.ensures c.spaced-4.ensures c.in_default-spaced-3.is)
+pub returns-in_err-months : goal.returns-in_err-months
+returns-in_err-months c =
+    let m = spaced_is _ 0 59 _ c.in_ok-minutes.ensures in
+    let h = spaced_is _ 0 23 _ c.in_ok-hours.ensures in
+    let d = spaced_is _ 1 31 _ c.in_ok-days.ensures in
+    rw c.from_residual-in_err-months.ensures (no_month _ _ m h d (spaced_not _ 1 12 _ c.in_err-months.ensures))
 
-pub returns-in_default-step_of : goal.returns-in_default-step_of
-returns-in_default-step_of c =
-    let a =
-    c.args in
-    let m =
-    spaced_is a.s.now 0 59 _ _ c.minute.ensures c.spaced.ensures c.in-Is.is in
-    let h =
-    spaced_is a.s.now 0 23 _ _ c.hour.ensures c.spaced-2.ensures c.in-Is-spaced.is in
-    let d =
-    spaced_is a.s.now 1 31 _ _ c.day_of_month.ensures c.spaced-3.ensures c.in-Is-spaced-2.is in
-    let mo =
-    spaced_is a.s.now 1 12 _ _ c.month.ensures c.spaced-4.ensures c.in-Is-spaced-3.is in
-    no_weekday a.s.now a.c.at m h d mo
-    (last_not a.s.now 0 6 _ _ c.day_of_week.ensures c.step_of.ensures c.in_default-step_of.is)
-
-pub returns-then-not-good : goal.returns-then-not-good
-returns-then-not-good c =
-    let a =
-    c.args in
-    let m =
-    spaced_is a.s.now 0 59 _ _ c.minute.ensures c.spaced.ensures c.in-Is.is in
-    let h =
-    spaced_is a.s.now 0 23 _ _ c.hour.ensures c.spaced-2.ensures c.in-Is-spaced.is in
-    let d =
-    spaced_is a.s.now 1 31 _ _ c.day_of_month.ensures c.spaced-3.ensures c.in-Is-spaced-2.is in
-    let mo =
-    spaced_is a.s.now 1 12 _ _ c.month.ensures c.spaced-4.ensures c.in-Is-spaced-3.is in
-    let w =
-    last_is a.s.now 0 6 _ _ c.day_of_week.ensures c.step_of.ensures c.in-Is-step_of.is in
-    five_outside a.s.now a.c.at m h d mo w (c.if-not-good.true)
+pub returns-in_err-weekdays : goal.returns-in_err-weekdays
+returns-in_err-weekdays c =
+    let m = spaced_is _ 0 59 _ c.in_ok-minutes.ensures in
+    let h = spaced_is _ 0 23 _ c.in_ok-hours.ensures in
+    let d = spaced_is _ 1 31 _ c.in_ok-days.ensures in
+    let mo = spaced_is _ 1 12 _ c.in_ok-months.ensures in
+    rw c.from_residual-in_err-weekdays.ensures (no_weekday _ _ m h d mo (last_not _ 0 6 _ c.in_err-weekdays.ensures))
 
 pub returns : goal.returns
 returns c =
-    let a =
-    c.args in
-    let m =
-    spaced_is a.s.now 0 59 _ _ c.minute.ensures c.spaced.ensures c.in-Is.is in
-    let h =
-    spaced_is a.s.now 0 23 _ _ c.hour.ensures c.spaced-2.ensures c.in-Is-spaced.is in
-    let d =
-    spaced_is a.s.now 1 31 _ _ c.day_of_month.ensures c.spaced-3.ensures c.in-Is-spaced-2.is in
-    let mo =
-    spaced_is a.s.now 1 12 _ _ c.month.ensures c.spaced-4.ensures c.in-Is-spaced-3.is in
-    let w =
-    last_is a.s.now 0 6 _ _ c.day_of_week.ensures c.step_of.ensures c.in-Is-step_of.is in
-    rw c.flags.ensures (five_is a.s.now a.c.at m h d mo w (c.if-not-good.false))
+    let m = spaced_is _ 0 59 _ c.in_ok-minutes.ensures in
+    let h = spaced_is _ 0 23 _ c.in_ok-hours.ensures in
+    let d = spaced_is _ 1 31 _ c.in_ok-days.ensures in
+    let mo = spaced_is _ 1 12 _ c.in_ok-months.ensures in
+    let w = last_is _ 0 6 _ c.in_ok-weekdays.ensures in
+    rw c.frame_of.ensures (five_is _ _ m h d mo w)

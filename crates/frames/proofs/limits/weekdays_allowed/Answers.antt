@@ -10,21 +10,24 @@ use Rattle.frames.proofs.MonthSets.{whole_bit}
 use Rattle.frames.proofs.limits.weekdays_allowed.Goals as goal
 
 pub returns-then-not-no_limit : goal.returns-then-not-no_limit
-returns-then-not-no_limit c = let a = c.args in
+returns-then-not-no_limit c =
+    let a = c.args in
     let o = c.no_limit in
     λ n l h.
     bit_of_both _ _ n
     ∙ ap₂ ◌||◌ (c.week_days-plain.ensures n l (omega arith)) (c.ordinals_allowed.ensures n l h)
     ∙ sym
-    (ordinal_weekday a.f n (a.len + 1 - n) ((a.first + (n - 1)) % 7) (sym o.ensures ∙ c.if-not-no_limit.true))
+    (ordinal_weekday a.f n (a.month.len + 1 - n) ((a.month.first + (n - 1)) % 7) (sym o.ensures ∙ c.if-not-no_limit.true))
 
 pub returns-then-f-eq0 : goal.returns-then-f-eq0
-returns-then-f-eq0 c = let o = c.no_limit in
+returns-then-f-eq0 c =
+    let o = c.no_limit in
     λ n l h. whole_bit n l (omega arith)
     ∙ sym (any_weekday _ n _ _ (sym o.ensures ∙ c.if-not-no_limit.false) c.if-f-eq0.true)
 
 pub returns : goal.returns
-returns c = let o = c.no_limit in
+returns c =
+    let o = c.no_limit in
     λ n l h.
     c.week_days-plain.ensures n l (omega arith)
     ∙ sym (plain_weekday _ n _ _ (sym o.ensures ∙ c.if-not-no_limit.false) (ne_eqb _ _ c.if-f-eq0.false))

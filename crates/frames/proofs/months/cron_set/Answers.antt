@@ -8,7 +8,7 @@ use Rattle.masks.proofs.WithBits.{bit_of_both, bit_of_shared}
 use Rattle.masks.specs.Masks.{bit}
 use Rattle.frames.specs.Cron.{cron_day_at, cron_day}
 use Rattle.frames.specs.Months.{day_of}
-use Rattle.frames.proofs.MonthDays.{days_at_most, weekday_at_most}
+use Rattle.frames.proofs.MonthDays.{days_at_most}
 use Rattle.frames.proofs.MonthSets.{month_same, cron_day_at_lem}
 use Rattle.frames.proofs.months.cron_set.Goals as goal
 
@@ -16,47 +16,30 @@ kept : (b : Bool) (days n : ℕ) → bit (cond b days 0) n ≡ (b && bit days n)
 kept true days n = refl
 kept false days n = bit_of_zero n
 
-pub week_days-week-requires : goal.week_days-week-requires
-week_days-week-requires c = rw c.first_weekday.ensures (weekday_at_most _)
-
-pub days_up_to-requires : goal.days_up_to-requires
-days_up_to-requires c = let k = c.args.k in
-    omega (arith, c.month_days-len.ensures, days_at_most k)
-
 pub returns-then-is_joined : goal.returns-then-is_joined
 unfolding cron_day_at
-returns-then-is_joined c = let s = c in
-    let a = s.args in
-    let len = c.month_days-len in
-    let days = c.month_and_days-days.ensures in
-    let first = c.first_weekday.ensures in
-    let week = c.week_days-week.ensures in
+returns-then-is_joined c =
+    let a = c.args in
+    let month = c.of-month in
     let j = sym c.is_joined.ensures ∙ c.if-is_joined.true in
     c.days_up_to.ensures
-    ∙ month_same _ (λ n. cron_day a.f (day_of a.k n)) a.k len.result len.ensures
+    ∙ month_same _ (λ n. cron_day a.f (day_of a.k n)) a.k month.result.len month.ensures.1
     (λ n i.
-    let d = ap (λ (x : ℕ). bit x n) days ∙ kept (bit a.f.months (a.k % 12 + 1)) a.f.days n in
+    let d = ap (λ (x : ℕ). bit x n) c.month_and_days-days.ensures ∙ kept (bit a.f.months (a.k % 12 + 1)) a.f.days n in
     let w =
-    week n i.low (omega (arith, i.high, days_at_most a.k)) ∙ ap (λ (x : ℕ). bit a.f.weekdays ((x + (n - 1)) % 7)) first in
+    c.week_days-week.ensures n i.low (omega (arith, i.high, days_at_most a.k)) ∙ ap (λ (x : ℕ). bit a.f.weekdays ((x + (n - 1)) % 7)) month.ensures.0 in
     bit_of_both _ _ n ∙ ap₂ ◌||◌ d w ∙ sym (cron_day_at_lem a.f a.k n i ∙ simp j))
-
-pub days_up_to-requires-2 : goal.days_up_to-requires-2
-days_up_to-requires-2 c = let k = c.args.k in
-    omega (arith, c.month_days-len.ensures, days_at_most k)
 
 pub returns : goal.returns
 unfolding cron_day_at
-returns c = let s = c in
-    let a = s.args in
-    let len = c.month_days-len in
-    let days = c.month_and_days-days.ensures in
-    let first = c.first_weekday.ensures in
-    let week = c.week_days-week.ensures in
+returns c =
+    let a = c.args in
+    let month = c.of-month in
     let j = sym c.is_joined.ensures ∙ c.if-is_joined.false in
     c.days_up_to-2.ensures
-    ∙ month_same _ (λ n. cron_day a.f (day_of a.k n)) a.k len.result len.ensures
+    ∙ month_same _ (λ n. cron_day a.f (day_of a.k n)) a.k month.result.len month.ensures.1
     (λ n i.
-    let d = ap (λ (x : ℕ). bit x n) days ∙ kept (bit a.f.months (a.k % 12 + 1)) a.f.days n in
+    let d = ap (λ (x : ℕ). bit x n) c.month_and_days-days.ensures ∙ kept (bit a.f.months (a.k % 12 + 1)) a.f.days n in
     let w =
-    week n i.low (omega (arith, i.high, days_at_most a.k)) ∙ ap (λ (x : ℕ). bit a.f.weekdays ((x + (n - 1)) % 7)) first in
+    c.week_days-week.ensures n i.low (omega (arith, i.high, days_at_most a.k)) ∙ ap (λ (x : ℕ). bit a.f.weekdays ((x + (n - 1)) % 7)) month.ensures.0 in
     bit_of_shared _ _ n ∙ ap₂ ◌&&◌ d w ∙ sym (cron_day_at_lem a.f a.k n i ∙ simp j))

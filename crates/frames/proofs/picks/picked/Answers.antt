@@ -1,6 +1,5 @@
 -- The loop's invariant: the picked days so far, and how many days of the set were passed.
 use mathlib.Core.Bool.{Bool, ◌&&◌}
-use mathlib.Core.Logic.{⊎_elim}
 use mathlib.Core.Path.{sym, ap, ◌∙◌}
 use Prim.Native.Nat.{ℕ, ◌+◌, ◌≤◌}
 use native.Mathlib.Omega.{arith}
@@ -16,49 +15,42 @@ abbrev wants : ℕ → ℕ → ℕ → Bool
 wants set wanted j = bit set j && bit wanted (bits_below set (j + 1))
 
 pub both_ends-wanted-requires : goal.both_ends-wanted-requires
-both_ends-wanted-requires c = let s = c in
-    rw c.count_from.ensures (few_days s.args.set s.args.len s.requires.0 s.requires.1 s.requires.2)
+both_ends-wanted-requires c = rw c.count_from.ensures (few_days c.args.set c.args.len c.requires.0 c.requires.1 c.requires.2)
 
 pub loop-n-init : goal.loop-n-init
-loop-n-init c = let s = c in
-    (omega arith, omega arith, sym (bits_below_one s.args.set s.requires.1), built_none _)
+loop-n-init c = (sym (bits_below_one c.args.set c.requires.1), built_none _)
 
 pub overflow_add-passed : goal.overflow_add-passed
-overflow_add-passed c = let v = c.loop-n in
-    omega (arith, few_passed _ v.n _ (omega arith) v.invariant.2)
-
-pub overflow_add-n : goal.overflow_add-n
-overflow_add-n c = omega arith
-
-pub loop-n-smaller : goal.loop-n-smaller
-loop-n-smaller c = omega arith
+overflow_add-passed c =
+    let v = c.loop-n in
+    omega (arith, few_passed _ v.n _ (omega arith) v.invariant.0)
 
 pub loop-n-preserved : goal.loop-n-preserved
-loop-n-preserved c = let a = c.args in
+loop-n-preserved c =
+    let a = c.args in
     let wanted = c.both_ends-wanted.result in
     let v = c.loop-n in
     let h : v.n ≤ 31 = omega arith in
     let e = sym c.test.ensures in
     let i = v.invariant in
-    let here = passed_on a.set v.n v.passed h i.2 in (
-      omega arith,
-      omega arith,
+    let here = passed_on a.set v.n v.passed h i.0 in (
       elim c.if-test.branch [
         | then-test w ↦ w.passed-is ∙ here (e ∙ w.if-test.true)
-        | else-test w ↦ w.passed-is ∙ passed_by a.set v.n v.passed h i.2 (e ∙ w.if-test.false)
+        | else-test w ↦ w.passed-is ∙ passed_by a.set v.n v.passed h i.0 (e ∙ w.if-test.false)
       ],
       elim c.if-test.branch [
         | then-test w ↦
             let b = e ∙ w.if-test.true in
             let p = in_set_lem a.set v.n _ b ∙ ap (bit wanted) (sym (here b)) in
-            w.picked-is ∙ w.with_place-picked.ensures ∙ built_next (wants a.set wanted) v.n v.picked i.0 h i.3 _ p
-        | else-test w ↦ w.picked-is ∙ built_without (wants a.set wanted) v.n v.picked i.0 h i.3 (not_in_set a.set v.n _ (e ∙ w.if-test.false))
+            w.picked-is ∙ w.with_place-picked.ensures ∙ built_next (wants a.set wanted) v.n v.picked (omega arith) h i.1 _ p
+        | else-test w ↦ w.picked-is ∙ built_without (wants a.set wanted) v.n v.picked (omega arith) h i.1 (not_in_set a.set v.n _ (e ∙ w.if-test.false))
       ],
     )
 
 pub returns : goal.returns
-returns c = let a = c.args in
+returns c =
+    let a = c.args in
     let ends = c.both_ends-wanted in
-    built_whole _ _ _ _ c.loop-n.invariant.3 (omega arith)
+    built_whole _ _ _ _ c.loop-n.invariant.1 (omega arith)
     ∙ mask_from_same (wants a.set ends.result) _ a.len 1
     (λ n l h. place_wanted_lem a.positions a.set _ ends.result c.count_from.ensures ends.ensures n (omega arith))

@@ -1,7 +1,7 @@
 -- The loop's invariant: the picked days so far, and how many days of the set were passed.
 use mathlib.Core.Bool.{Bool, ◌&&◌}
 use mathlib.Core.Path.{◌≡◌}
-use Prim.Native.Nat.{ℕ, ◌+◌, ◌-◌, ◌≤◌}
+use Prim.Native.Nat.{ℕ, ◌+◌, ◌-◌}
 use Rattle.masks.specs.Masks.{bit, mask_from, bits_below}
 use Rattle.frames.proofs.picks.picked.Given as goal
 
@@ -9,8 +9,4 @@ abbrev wants : ℕ → ℕ → ℕ → Bool
 wants set wanted j = bit set j && bit wanted (bits_below set (j + 1))
 
 abbrev pub invariant-loop-n : goal.invariant-loop-n
-invariant-loop-n l =
-    (1 ≤ l.n) × (l.n ≤ l.len + 1) × (l.passed ≡ bits_below l.set l.n) × (l.picked ≡ mask_from (wants l.set l.wanted) (l.n - 1) 1)
-
-abbrev pub decreases-loop-n : goal.decreases-loop-n
-decreases-loop-n l = l.len + 1 - l.n
+invariant-loop-n l = (l.passed ≡ bits_below l.set l.n) × (l.picked ≡ mask_from (wants l.set l.wanted) (l.n - 1) 1)

@@ -8,22 +8,22 @@ use borrow.Author.Rules.{rules}
 use Rattle.frames.proofs.years.counted.Goals as goal
 
 pub from_front-front-requires : goal.from_front-front-requires
-from_front-front-requires c = let s = c in
+from_front-front-requires c =
     let r = c.bare-g in
     let n : length r.result ≡ row_numbers = search rules in
-    (s.requires.0, rw r.ensures (bared_is s.args.f.now (rw r.ensures at n) s.requires.1))
+    (c.requires.0, rw r.ensures (bared_is c.args.f.now (rw r.ensures at n) c.requires.1))
 
 pub from_back-requires : goal.from_back-requires
-from_back-requires c = let s = c in
+from_back-requires c =
     let r = c.bare-g in
     let n : length r.result ≡ row_numbers = search rules in
     let front = c.from_front-front.ensures in
-    (s.requires.0, rw r.ensures (bared_is s.args.f.now (rw r.ensures at n) s.requires.1), front.most, front.counts)
+    (c.requires.0, rw r.ensures (bared_is c.args.f.now (rw r.ensures at n) c.requires.1), front.most, front.counts)
 
 pub returns : goal.returns
 unfolding reached
-returns c = let s = c in
-    let l = s.args.f.now in
+returns c =
+    let l = c.args.f.now in
     let r = c.bare-g.ensures in
     let front = c.from_front-front.ensures in
     let made = rw (front.months, r, bare_counts l) at c.from_back.ensures in

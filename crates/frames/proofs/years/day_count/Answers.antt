@@ -4,5 +4,5 @@ use Rattle.frames.proofs.YearSets.{bare_set, count_of_set}
 use Rattle.frames.proofs.years.day_count.Goals as goal
 
 pub returns : goal.returns
-returns c = let s = c in
-    c.count_from.ensures ∙ rw (c.month_set.ensures, bare_set s.args.g.now s.requires.1 s.args.k) (count_of_set _ _ s.requires.0)
+returns c =
+    c.count_from.ensures ∙ rw (c.month_set.ensures, bare_set c.args.g.now c.requires.1 c.args.k) (count_of_set _ _ c.requires.0)

@@ -7,74 +7,48 @@ use Rattle.frames.specs.Years.{day_count, reach_back}
 use Rattle.frames.proofs.YearSets.{count_small, outer_below, shifted_count, more_in_back, all_months, back_on, back_stops}
 use Rattle.frames.proofs.years.from_back.Goals as goal
 
-pub loop-m-init : goal.loop-m-init
-loop-m-init c = (c.requires.2, omega arith, c.requires.3, omega arith)
-
 pub returns-then-left-lt2 : goal.returns-then-left-lt2
-returns-then-left-lt2 c = let s = c in
-    let g = day_count (rule_of s.args.g.now) in
+returns-then-left-lt2 c =
+    let g = day_count (rule_of c.args.g.now) in
     let v = c.loop-m in
-    let first : ℕ = 12 * s.args.y in
-    let b : reach_back g s.args.mask 12 first ≡ 12 - v.m = omega (arith, v.invariant.3, back_stops g v.left v.m first c.if-left-lt2.true) in
-    rw b v.invariant.2
-
-pub overflow_sub-m : goal.overflow_sub-m
-overflow_sub-m c = omega arith
-
-pub overflow_mul-y : goal.overflow_mul-y
-overflow_mul-y c = omega arith
-
-pub overflow_add-y : goal.overflow_add-y
-overflow_add-y c = omega arith
-
-pub day_count-here-requires : goal.day_count-here-requires
-day_count-here-requires c = (omega arith, c.requires.1)
-
-pub overflow_mul-counts : goal.overflow_mul-counts
-overflow_mul-counts c = omega arith
-
-pub overflow_shl-counts : goal.overflow_shl-counts
-overflow_shl-counts c = omega arith
+    let first : ℕ = 12 * c.args.y in
+    let b : reach_back g c.args.mask 12 first ≡ 12 - v.m = omega (arith, v.invariant.1, back_stops g v.left v.m first c.if-left-lt2.true) in
+    rw b v.invariant.0
 
 pub overflow_add-counts : goal.overflow_add-counts
-overflow_add-counts c = let s = c in
-    let g = day_count (rule_of s.args.g.now) in
+overflow_add-counts c =
+    let g = day_count (rule_of c.args.g.now) in
     let v = c.loop-m in
     let n : ℕ = v.m - 1 in
-    let first : ℕ = 12 * s.args.y in
-    let small = count_small (rule_of s.args.g.now) in
+    let first : ℕ = 12 * c.args.y in
+    let small = count_small (rule_of c.args.g.now) in
     let e = c.day_count-here.ensures in
     let o : n + 1 ≡ v.m = omega arith in
-    let more = rw o at (more_in_back g first s.args.front.months n (omega arith) (omega arith)) in
+    let more = rw o at (more_in_back g first c.args.front.months n (omega arith) (omega arith)) in
     rw (shifted_count c.day_count-here.result n (omega (arith, e, small (first + n))) (omega arith))
-    (omega (arith, outer_below g small first s.args.front.months (12 - n), more, v.invariant.2, ap (λ (x : ℕ). x * 32 ^ n) e))
+    (omega (arith, outer_below g small first c.args.front.months (12 - n), more, v.invariant.0, ap (λ (x : ℕ). x * 32 ^ n) e))
 
 pub overflow_shr-left : goal.overflow_shr-left
-overflow_shr-left c = let s = c in
-    omega (arith, c.day_count-here.ensures, count_small (rule_of s.args.g.now) (12 * s.args.y + (c.loop-m.m - 1)))
-
-pub loop-m-smaller : goal.loop-m-smaller
-loop-m-smaller c = omega arith
+overflow_shr-left c =
+    omega (arith, c.day_count-here.ensures, count_small (rule_of c.args.g.now) (12 * c.args.y + (c.loop-m.m - 1)))
 
 pub loop-m-preserved : goal.loop-m-preserved
-loop-m-preserved c = let s = c in
-    let g = day_count (rule_of s.args.g.now) in
+loop-m-preserved c =
+    let g = day_count (rule_of c.args.g.now) in
     let v = c.loop-m in
     let n : ℕ = v.m - 1 in
-    let first : ℕ = 12 * s.args.y in
-    let small = count_small (rule_of s.args.g.now) in
+    let first : ℕ = 12 * c.args.y in
+    let small = count_small (rule_of c.args.g.now) in
     let e = c.day_count-here.ensures in
     let o : n + 1 ≡ v.m = omega arith in
-    let more = rw o at (more_in_back g first s.args.front.months n (omega arith) (omega arith)) in
+    let more = rw o at (more_in_back g first c.args.front.months n (omega arith) (omega arith)) in
     let r = rw o at (back_on g v.left n first (omega (arith, c.if-left-lt2.false))) in (
-      omega arith,
-      omega arith,
-      rw (shifted_count c.day_count-here.result n (omega (arith, e, small (first + n))) (omega arith), v.invariant.2, e) (sym more),
-      rw e (omega (arith, v.invariant.3, r)),
+      rw (shifted_count c.day_count-here.result n (omega (arith, e, small (first + n))) (omega arith), v.invariant.0, e) (sym more),
+      rw e (omega (arith, v.invariant.1, r)),
     )
 
 pub returns : goal.returns
-returns c = let s = c in
-    let g = day_count (rule_of s.args.g.now) in
+returns c =
+    let g = day_count (rule_of c.args.g.now) in
     let v = c.loop-m in
-    v.invariant.2 ∙ all_months g (12 * s.args.y) s.args.front.months (12 - v.m) _ (omega arith) (omega (arith, v.invariant.3))
+    v.invariant.0 ∙ all_months g (12 * c.args.y) c.args.front.months (12 - v.m) _ (omega arith) (omega (arith, v.invariant.1))

@@ -8,66 +8,46 @@ use Rattle.frames.proofs.YearSets.{count_small, outer_below, shifted_count, more
 use Rattle.frames.proofs.years.from_front.Goals as goal
 
 pub loop-m-init : goal.loop-m-init
-loop-m-init c = let g = day_count (rule_of c.args.g.now) in
+loop-m-init c =
+    let g = day_count (rule_of c.args.g.now) in
     let y = c.args.y in
     let e : 12 * y + 0 ≡ 12 * y = omega arith in
-    (omega arith, no_months g (12 * y), rw e (omega arith))
+    (no_months g (12 * y), rw e (omega arith))
 
 pub returns-then-left-lt2 : goal.returns-then-left-lt2
-returns-then-left-lt2 c = let s = c in
-    let g = day_count (rule_of s.args.g.now) in
+returns-then-left-lt2 c =
+    let g = day_count (rule_of c.args.g.now) in
     let v = c.loop-m in
-    record { months = omega (arith, v.invariant.2, reach_stops g v.left (12 - v.m) (12 * s.args.y + v.m) c.if-left-lt2.true); most = v.invariant.0; counts = v.invariant.1 }
-
-pub overflow_mul-y : goal.overflow_mul-y
-overflow_mul-y c = omega arith
-
-pub overflow_add-y : goal.overflow_add-y
-overflow_add-y c = omega arith
-
-pub day_count-here-requires : goal.day_count-here-requires
-day_count-here-requires c = (omega arith, c.requires.1)
-
-pub overflow_mul-counts : goal.overflow_mul-counts
-overflow_mul-counts c = omega arith
-
-pub overflow_shl-counts : goal.overflow_shl-counts
-overflow_shl-counts c = omega arith
+    record { months = omega (arith, v.invariant.1, reach_stops g v.left (12 - v.m) (12 * c.args.y + v.m) c.if-left-lt2.true); most = omega arith; counts = v.invariant.0 }
 
 pub overflow_add-counts : goal.overflow_add-counts
-overflow_add-counts c = let s = c in
-    let g = day_count (rule_of s.args.g.now) in
+overflow_add-counts c =
+    let g = day_count (rule_of c.args.g.now) in
     let v = c.loop-m in
-    let small = count_small (rule_of s.args.g.now) in
+    let small = count_small (rule_of c.args.g.now) in
     let e = c.day_count-here.ensures in
-    rw (shifted_count c.day_count-here.result v.m (omega (arith, e, small (12 * s.args.y + v.m))) (omega arith))
-    (omega (arith, outer_below g small (12 * s.args.y) (v.m + 1) 0, more_in_front g (12 * s.args.y) v.m (omega arith), v.invariant.1, ap (λ (x : ℕ). x * 32 ^ v.m) e))
+    rw (shifted_count c.day_count-here.result v.m (omega (arith, e, small (12 * c.args.y + v.m))) (omega arith))
+    (omega (arith, outer_below g small (12 * c.args.y) (v.m + 1) 0, more_in_front g (12 * c.args.y) v.m (omega arith), v.invariant.0, ap (λ (x : ℕ). x * 32 ^ v.m) e))
 
 pub overflow_shr-left : goal.overflow_shr-left
 overflow_shr-left c = omega (arith, c.day_count-here.ensures, count_small (rule_of c.args.g.now) (12 * c.args.y + c.loop-m.m))
 
-pub overflow_add-m : goal.overflow_add-m
-overflow_add-m c = omega arith
-
-pub loop-m-smaller : goal.loop-m-smaller
-loop-m-smaller c = omega arith
-
 pub loop-m-preserved : goal.loop-m-preserved
-loop-m-preserved c = let s = c in
-    let g = day_count (rule_of s.args.g.now) in
+loop-m-preserved c =
+    let g = day_count (rule_of c.args.g.now) in
     let v = c.loop-m in
-    let first : ℕ = 12 * s.args.y in
-    let small = count_small (rule_of s.args.g.now) in
+    let first : ℕ = 12 * c.args.y in
+    let small = count_small (rule_of c.args.g.now) in
     let e = c.day_count-here.ensures in
     let i : first + v.m + 1 ≡ first + (v.m + 1) = omega arith in
     let r = rw i at (reach_on g v.left v.m (first + v.m) (omega arith) (omega (arith, c.if-left-lt2.false))) in (
-      omega arith,
-      rw (shifted_count c.day_count-here.result v.m (omega (arith, e, small (first + v.m))) (omega arith), v.invariant.1, e) (sym (more_in_front g first v.m (omega arith))),
-      rw e (omega (arith, v.invariant.2, r)),
+      rw (shifted_count c.day_count-here.result v.m (omega (arith, e, small (first + v.m))) (omega arith), v.invariant.0, e) (sym (more_in_front g first v.m (omega arith))),
+      rw e (omega (arith, v.invariant.1, r)),
     )
 
 pub returns : goal.returns
-returns c = let s = c in
-    let g = day_count (rule_of s.args.g.now) in
+returns c =
+    let g = day_count (rule_of c.args.g.now) in
     let v = c.loop-m in
-    record { months = omega (arith, v.invariant.2, reach_none g v.left v.m (12 * s.args.y + v.m) (omega arith)); most = v.invariant.0; counts = v.invariant.1 }
+    let e : v.m ≡ 12 = omega arith in
+    record { months = omega (arith, v.invariant.1, reach_none g v.left v.m (12 * c.args.y + v.m) (omega arith)); most = omega arith; counts = rw e at v.invariant.0 }

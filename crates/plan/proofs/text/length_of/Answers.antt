@@ -1,11 +1,7 @@
--- The line and its LF.
-use mathlib.Core.Path.{sym}
-use Rattle.plan.proofs.Placing.{whole_length, line_short}
-use borrow.Author.Rules.{rules}
+-- No line is too long for its LF.
+use native.Mathlib.Omega.{arith}
+use Rattle.plan.proofs.Placing.{line_short}
 use Rattle.plan.proofs.text.length_of.Goals as goal
 
 pub overflow_add-result : goal.overflow_add-result
-overflow_add-result c = search (rules, line_short c.args.frame, c.size_of.ensures)
-
-pub returns : goal.returns
-returns c = rw c.size_of.ensures (sym (whole_length _))
+overflow_add-result c = omega (arith, line_short c.args.frame, c.size_of.ensures)

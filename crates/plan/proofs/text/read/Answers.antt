@@ -6,5 +6,5 @@ use Rattle.plan.proofs.text.read.Goals as goal
 pub returns-then-is_line : goal.returns-then-is_line
 returns-then-is_line c = c.frame_of.ensures ∙ read_digits _ (sym c.is_line.ensures ∙ c.if-is_line.true)
 
-pub returns : goal.returns
-returns c = sym (read_other _ (sym c.is_line.ensures ∙ c.if-is_line.false))
+pub returns-else-is_line : goal.returns-else-is_line
+returns-else-is_line c = sym (read_other _ (sym c.is_line.ensures ∙ c.if-is_line.false))

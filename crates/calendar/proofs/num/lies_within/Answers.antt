@@ -1,9 +1,0 @@
--- The tests on the way are those of the definition.
-use borrow.Author.Tests.{lt-leb, le-leb}
-use Rattle.calendar.proofs.num.lies_within.Goals as goal
-
-pub returns-then-n-low : goal.returns-then-n-low
-returns-then-n-low c = simp (lt-leb _ _ c.if-n-low.true)
-
-pub returns : goal.returns
-returns c = simp (le-leb _ _ c.if-n-low.false)

@@ -1,9 +1,0 @@
--- By what was read.
-use mathlib.Core.Path.{refl}
-use Rattle.compile.proofs.reading.refused.Goals as goal
-
-pub returns-in-Is : goal.returns-in-Is
-returns-in-Is c = rw c.in-Is.is refl
-
-pub returns-in-Refused : goal.returns-in-Refused
-returns-in-Refused c = rw c.in-Refused.is refl

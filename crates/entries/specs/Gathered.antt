@@ -1,0 +1,18 @@
+-- What a list with a separator comes to, step by step: a step reads an element and takes it up.
+use Rattle.std.specs.Prelude.{true, false, List, ℕ, zero, suc, ◌+◌, eqb, get_or, Option, None, Some}
+use Rattle.words.specs.Reads.{cursor}
+use Rattle.words.specs.declared.cursor.Cursor.{Cursor}
+
+-- from a place on, as long as a separator follows; `left` is above the bytes left
+unfoldable pub gathered : {M : Type 0} → (M → ℕ → Option (M × ℕ)) → ℕ → List ℕ → ℕ → M → ℕ → Option (M × ℕ)
+gathered step separator s zero m at = None
+gathered step separator s (suc left) m at =
+    elim (step m at) [
+      | None ↦ None
+      | Some r ↦ elim (eqb (get_or s r.1 0) separator) [ true ↦ gathered step separator s left r.0 (r.1 + 1) | false ↦ Some r ]
+    ]
+
+-- what came of it with the place after it
+abbrev pub ended : {M : Type 0} → Option (M × ℕ) → Option (M × Cursor)
+ended None = None
+ended (Some r) = Some (r.0, cursor r.1)

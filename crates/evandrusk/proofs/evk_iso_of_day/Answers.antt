@@ -1,8 +1,0 @@
--- The callees' promises, one after the other.
-use mir.Facts.{to_z-of_z}
-use Rattle.evandrusk.proofs.evk_iso_of_day.Goals as goal
-
-pub returns : goal.returns
-returns c =
-    let s = c in
-    rw (c.iso.ensures, c.iso_of_day.ensures, c.bias_day.ensures, to_z-of_z s.ranges.day)

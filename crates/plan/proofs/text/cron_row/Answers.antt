@@ -1,8 +1,0 @@
--- The definition itself.
-use mathlib.Core.Path.{refl}
-use Rattle.plan.specs.Rows.{row_of}
-use Rattle.plan.proofs.text.cron_row.Goals as goal
-
-pub returns : goal.returns
-unfolding row_of
-returns c = refl
