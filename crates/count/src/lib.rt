@@ -16,8 +16,6 @@ use calendar::window;
 use frames::places::Row;
 use frames::{places, years};
 
-// The frame and the month go on as words: the month is the loop's own.
-// Not in line: few frames are placed, and of the others no month is then divided by 12.
 // The counts of the year of month k, from those of the month before. The frame and the month go on as words: the month is the loop's own.
 // Not in line: few frames are placed, and of the others no month is then divided by 12.
 #[inline(never)]

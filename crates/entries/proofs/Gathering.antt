@@ -8,16 +8,16 @@ use native.Mathlib.Omega.{arith}
 use borrow.Author.Tests.{eq-eqb, ne_eqb}
 use lib.Dec.{eqb}
 use lib.ListN.{length, get_or}
-use Rattle.words.proofs.Afters.{Reads}
 use Rattle.words.proofs.Counting.{byte_within}
-use Rattle.words.specs.Answers.{made_read}
+use Rattle.words.proofs.Afters.{Reads, number_after}
+use Rattle.words.specs.Answers.{made_read, number_read}
 use Rattle.words.specs.Lists.{before, over_all, list_at}
-use Rattle.words.specs.Reads.{cursor}
+use Rattle.words.specs.Reads.{cursor, number_at}
 use Rattle.words.specs.declared.cursor.Cursor.{Cursor}
-use Rattle.entries.specs.Gathered.{gathered, ended}
+use Rattle.entries.specs.Gathered.{gathered, step_of, ended}
 
 -- ---- one step
-ended_is : {M : Type 0} (o : Option (M × ℕ)) (r : M × Cursor) → Some r ≡ ended o → o ≡ Some (r.0, r.1.at)
+pub ended_is : {M : Type 0} (o : Option (M × ℕ)) (r : M × Cursor) → Some r ≡ ended o → o ≡ Some (r.0, r.1.at)
 ended_is None r e = let z : ◌≡◌ {A = ℕ} 0 1 = cc in absurd (omega arith)
 ended_is (Some q) r e = let z : r ≡ (q.0, cursor q.1) = cc in rw z refl
 
@@ -69,9 +69,6 @@ module _ {M : Type 0} (step : M → ℕ → Option (M × ℕ)) (separator : ℕ)
               next = rw (gathered, ended_is (step m at) r e, eq-eqb _ _ f) refl
 
 -- ---- the whole list
-abbrev pub step_of : {A M : Type 0} → (M → A → M) → (ℕ → Option (A × ℕ)) → M → ℕ → Option (M × ℕ)
-step_of take read m at = made_read (take m) (read at)
-
 module _ {A M : Type 0} (take : M → A → M) (read : ℕ → Option (A × ℕ)) (separator : ℕ) (s : List ℕ) where
   pub gathered_list : (left : ℕ) (m : M) (at : ℕ)
       → gathered (step_of take read) separator s left m at ≡ made_read (over_all take m) (list_at read separator s left at)
@@ -102,11 +99,14 @@ made_same f g None h = refl
 made_same {B = B} f g (Some r) h = ap (λ (y : B). Some (y, r.1)) (h r.0 r.1 refl)
 
 -- a step goes no way back where its reader goes none
-pub step_onward : {A M : Type 0} (f : A → M) (o : Option (A × ℕ)) (at : ℕ) → Reads (λ x e. at ≤ e) o → (r : M × Cursor) → Some r ≡ ended (made_read f o)
-    → at ≤ r.1.at
-step_onward f None at h r e = let z : ◌≡◌ {A = ℕ} 0 1 = cc in absurd (omega arith)
-step_onward {M = M} f (Some q) at h r e = let y : q.1 ≡ r.1.at = ap place (ended_is (made_read f (Some q)) r e) in omega (arith, h q.0 q.1 refl)
+pub step_goes_on : {A M : Type 0} (f : A → M) (o : Option (A × ℕ)) (at : ℕ) → Reads (λ x e. at ≤ e) o → (r : M × ℕ) → made_read f o ≡ Some r → at ≤ r.1
+step_goes_on f None at h r e = let z : ◌≡◌ {A = ℕ} 0 1 = cc in absurd (omega arith)
+step_goes_on {M = M} f (Some q) at h r e = let y : q.1 ≡ r.1 = ap place e in omega (arith, h q.0 q.1 refl)
   where
     place : Option (M × ℕ) → ℕ
     place None = 0
     place (Some x) = x.1
+
+-- a number without a sign takes a byte at least
+pub number_goes_on : (s : List ℕ) (at : ℕ) → Reads (λ n e. at ≤ e) (number_read (number_at s at))
+number_goes_on s at n e q = omega (arith, number_after s at n e q)

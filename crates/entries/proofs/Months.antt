@@ -15,11 +15,11 @@ use Rattle.sheet.specs.Words.{Signed}
 use Rattle.words.specs.Answers.{number_read}
 use Rattle.words.specs.Lists.{over_all}
 use Rattle.words.specs.Reads.{number_at}
-use Rattle.entries.specs.Gathered.{gathered, ended}
+use Rattle.entries.specs.Gathered.{gathered, step_of, ended}
 use Rattle.entries.specs.Lists.{months_read, months_given, months_as}
 use Rattle.entries.specs.Marks.{take_number, take_month}
 use Rattle.entries.specs.declared.numbers.Numbers.{Numbers}
-use Rattle.entries.proofs.Gathering.{step_of, gathered_list, made_same}
+use Rattle.entries.proofs.Gathering.{gathered_list, made_same}
 use Rattle.entries.proofs.Marking.{list_given, no_numbers, numbers_marked}
 
 abbrev unsigned : ℕ → Signed

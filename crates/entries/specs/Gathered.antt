@@ -1,5 +1,6 @@
 -- What a list with a separator comes to, step by step: a step reads an element and takes it up.
 use Rattle.std.specs.Prelude.{true, false, List, ℕ, zero, suc, ◌+◌, eqb, get_or, Option, None, Some}
+use Rattle.words.specs.Answers.{made_read}
 use Rattle.words.specs.Reads.{cursor}
 use Rattle.words.specs.declared.cursor.Cursor.{Cursor}
 
@@ -11,6 +12,10 @@ gathered step separator s (suc left) m at =
       | None ↦ None
       | Some r ↦ elim (eqb (get_or s r.1 0) separator) [ true ↦ gathered step separator s left r.0 (r.1 + 1) | false ↦ Some r ]
     ]
+
+-- a step reads an element and takes it up
+abbrev pub step_of : {A M : Type 0} → (M → A → M) → (ℕ → Option (A × ℕ)) → M → ℕ → Option (M × ℕ)
+step_of take read m at = made_read (take m) (read at)
 
 -- what came of it with the place after it
 abbrev pub ended : {M : Type 0} → Option (M × ℕ) → Option (M × Cursor)

@@ -1,32 +1,39 @@
 // Lists with a separator, taken up as they are read.
-ghost use Rattle.std.specs.Prelude.{◌≡◌, ℕ, ◌+◌, ◌<◌, ◌≤◌, length, Option, Some};
-ghost use Rattle.words.specs.declared.cursor.Cursor.{Cursor};
+ghost use Rattle.std.specs.Prelude.{◌≡◌, ℕ, ◌+◌, ◌<◌, ◌≤◌, length, List, Option, Some};
 ghost use Rattle.entries.specs.Gathered.{gathered, ended};
 
 use words::cursor::Cursor;
 
-// What a list comes to: a step reads an element and takes it up in what came of those before it.
+// A list by its separator, and by how an element is read and taken up in what came of those before it.
+pub trait Listed {
+    type Made: Copy;
+
+    const SEPARATOR: u8;
+
+    ghost SEPARATOR: { ℕ };
+
+    ghost step: { List ℕ → Self.Made → ℕ → Option (Self.Made × ℕ) };
+
+    // No step goes a way back.
+    fn take(s: &[u8], m: Self::Made, c: Cursor) -> Option<(Self::Made, Cursor)>
+        ensures value { result ≡ ended (step s.now m c.at) }
+        ensures onward { (r : Self.Made × ℕ) → step s.now m c.at ≡ Some r → c.at ≤ r.1 };
+
+    // No line has a byte 0, which stands for its end.
+    ghost marks: { 0 < SEPARATOR };
+}
+
+// What a list comes to, and the place after it.
 #[inline(always)]
-pub fn gather<M: Copy, F: Fn(M, Cursor) -> Option<(M, Cursor)>>(
-    s: &[u8],
-    separator: u8,
-    start: M,
-    c: Cursor,
-    step: F,
-) -> Option<(M, Cursor)>
-    requires callable { F.IsAlwaysCallable step }
-    requires mark { 0 < separator }
-    requires onward { (m : M) (c : Cursor) (r : M × Cursor) → F.post step m c (Some r) → c.at ≤ r.1.at }
-    ensures { (t : M → ℕ → Option (M × ℕ))
-        → ((m : M) (c : Cursor) (r : Option (M × Cursor)) → F.post step m c r → r ≡ ended (t m c.at))
-        → result ≡ ended (gathered t separator s.now (length s.now + 1) start c.at) }
+pub fn gather<L: Listed>(s: &[u8], start: L::Made, c: Cursor) -> Option<(L::Made, Cursor)>
+    ensures { result ≡ ended (gathered (L.step s.now) L.SEPARATOR s.now (length s.now + 1) start c.at) }
 {
     let mut m = start;
     let mut at = c.at;
     // No index: it goes on where the last element ended.
     loop {
-        let (more, next) = step(m, Cursor { at })?;
-        if next.byte(s) != separator {
+        let (more, next) = L::take(s, m, Cursor { at })?;
+        if next.byte(s) != L::SEPARATOR {
             return Some((more, next));
         }
         m = more;

@@ -1,12 +1,13 @@
 // "`BYMONTHDAY=` a comma list of −31 to 31 without 0; `BYSETPOS=` likewise"; T-01: "`BYMONTH=` 1 to 12, a comma list".
-ghost use Rattle.std.specs.Prelude.{◌≡◌};
-ghost use Rattle.words.specs.Answers.{made_read, number_read, signed_read};
+ghost use Rattle.std.specs.Prelude.{◌≡◌, ℕ};
+ghost use Rattle.std.proofs.Common.{lit≤};
+ghost use Rattle.words.specs.Answers.{number_read, signed_read};
 ghost use Rattle.words.specs.Reads.{number_at, signed_at};
-ghost use Rattle.entries.specs.Gathered.{ended};
+ghost use Rattle.entries.specs.Gathered.{step_of};
 ghost use Rattle.entries.specs.Lists.{numbers_as, numbers_read, months_as, months_read};
 ghost use Rattle.entries.specs.Marks.{with_number, take_number, take_month};
 
-use crate::list::gather;
+use crate::list::{Listed, gather};
 use words::cursor::{COMMA, Cursor, Signed};
 
 const MOST_DAY: u64 = 31;
@@ -47,40 +48,62 @@ fn with_number(m: Numbers, most: u64, n: Signed) -> Numbers
     }
 }
 
+// The numbers of BYMONTHDAY and BYSETPOS.
+struct DayNumbers {}
+
+impl Listed for DayNumbers {
+    type Made = Numbers;
+
+    const SEPARATOR: u8 = COMMA;
+
+    ghost SEPARATOR = { 44 };
+
+    ghost step = { λ s. step_of (take_number 31) (λ (e : ℕ). signed_read (signed_at s e)) };
+
+    ghost marks = { lit≤ tt };
+
+    #[inline(always)]
+    #[tactic(auto, using(crate::proofs::Gathering::step_goes_on, words::proofs::Afters::signed_after))]
+    fn take(s: &[u8], m: Numbers, c: Cursor) -> Option<(Numbers, Cursor)> {
+        let (n, next) = c.signed(s)?;
+        Some((with_number(m, MOST_DAY, n), next))
+    }
+}
+
+// The months of BYMONTH, without a sign.
+struct Months {}
+
+impl Listed for Months {
+    type Made = Numbers;
+
+    const SEPARATOR: u8 = COMMA;
+
+    ghost SEPARATOR = { 44 };
+
+    ghost step = { λ s. step_of take_month (λ (e : ℕ). number_read (number_at s e)) };
+
+    ghost marks = { lit≤ tt };
+
+    #[inline(always)]
+    #[tactic(auto, using(crate::proofs::Gathering::step_goes_on, crate::proofs::Gathering::number_goes_on))]
+    fn take(s: &[u8], m: Numbers, c: Cursor) -> Option<(Numbers, Cursor)> {
+        let (number, next) = c.number(s)?;
+        let n = Signed {
+            minus: false,
+            number,
+        };
+        Some((with_number(m, MOST_MONTH, n), next))
+    }
+}
+
 pub fn numbers_at(s: &[u8], c: Cursor) -> Option<(Numbers, Cursor)>
     ensures { result ≡ numbers_as (numbers_read s.now c.at) }
 {
-    gather(
-        s,
-        COMMA,
-        NO_NUMBERS,
-        c,
-        |m, c|
-            ensures { result ≡ ended (made_read (take_number 31 m) (signed_read (signed_at s.entry.now c.at))) }
-        {
-            let (n, next) = c.signed(s)?;
-            Some((with_number(m, MOST_DAY, n), next))
-        },
-    )
+    gather::<DayNumbers>(s, NO_NUMBERS, c)
 }
 
 pub fn months_at(s: &[u8], c: Cursor) -> Option<(Numbers, Cursor)>
     ensures { result ≡ months_as (months_read s.now c.at) }
 {
-    gather(
-        s,
-        COMMA,
-        NO_NUMBERS,
-        c,
-        |m, c|
-            ensures { result ≡ ended (made_read (take_month m) (number_read (number_at s.entry.now c.at))) }
-        {
-            let (number, next) = c.number(s)?;
-            let n = Signed {
-                minus: false,
-                number,
-            };
-            Some((with_number(m, MOST_MONTH, n), next))
-        },
-    )
+    gather::<Months>(s, NO_NUMBERS, c)
 }

@@ -1,12 +1,12 @@
 // "`BYDAY=` a comma list of weekdays, each with an optional signed ordinal."
 ghost use Rattle.std.specs.Prelude.{◌≡◌};
-ghost use Rattle.words.specs.Answers.{made_read};
-ghost use Rattle.entries.specs.Gathered.{ended};
+ghost use Rattle.std.proofs.Common.{lit≤};
+ghost use Rattle.entries.specs.Gathered.{step_of};
 ghost use Rattle.entries.specs.Lists.{entry_read, days_as, days_read};
 ghost use Rattle.entries.specs.Marks.{with_plain, with_ordinal, with_entry, take_entry};
 
 use crate::entry::{Entry, entry_at};
-use crate::list::gather;
+use crate::list::{Listed, gather};
 use words::cursor::{COMMA, Cursor, Signed};
 
 const MOST_ORDINAL: u64 = 5;
@@ -71,19 +71,29 @@ fn with_entry(m: Weekdays, x: Entry) -> Weekdays
     }
 }
 
+struct Entries {}
+
+impl Listed for Entries {
+    type Made = Weekdays;
+
+    const SEPARATOR: u8 = COMMA;
+
+    ghost SEPARATOR = { 44 };
+
+    ghost step = { λ s. step_of take_entry (entry_read s) };
+
+    ghost marks = { lit≤ tt };
+
+    #[inline(always)]
+    fn take(s: &[u8], m: Weekdays, c: Cursor) -> Option<(Weekdays, Cursor)> {
+        let (x, next) = entry_at(s, c)?;
+        Some((with_entry(m, x), next))
+    }
+}
+
+#[tactic(auto, using(crate::proofs::Listed::days_taken))]
 pub fn days_at(s: &[u8], c: Cursor) -> Option<(Weekdays, Cursor)>
     ensures { result ≡ days_as (days_read s.now c.at) }
 {
-    gather(
-        s,
-        COMMA,
-        NO_WEEKDAYS,
-        c,
-        |m, c|
-            ensures { result ≡ ended (made_read (take_entry m) (entry_read s.entry.now c.at)) }
-        {
-            let (x, next) = entry_at(s, c)?;
-            Some((with_entry(m, x), next))
-        },
-    )
+    gather::<Entries>(s, NO_WEEKDAYS, c)
 }

@@ -2,7 +2,7 @@
 ghost use Rattle.std.specs.Prelude.{◌≡◌};
 ghost use Rattle.evandrusk.specs.Answers.{day_answer, date_answer, iso_answer};
 ghost use Rattle.evandrusk.specs.Sheets.{compiled_for};
-ghost use Rattle.evandrusk.specs.Plans.{checked_as, found_as, refused_as, offset_as, minute_of};
+ghost use Rattle.evandrusk.specs.Plans.{checked_as, found_as, answer_as, local_as, refused_as, offset_as, minute_of};
 
 use calendar::date::Date;
 use calendar::iso::IsoDate;
@@ -12,11 +12,11 @@ use load::NotTaken;
 
 // Refusals as numbers: the structs of include/evandrusk.h hold a uint64_t.
 // Outside the range or the window.
-pub(crate) const OUTSIDE: u64 = 5;
+const OUTSIDE: u64 = 5;
 // A plan that is not taken.
 const NOT_TAKEN: u64 = 10;
 // No instant beyond the asked one.
-pub(crate) const NONE: u64 = 11;
+const NONE: u64 = 11;
 
 #[repr(C)]
 #[derive(Clone, Copy)]
@@ -192,8 +192,22 @@ impl From<Result<u64, NotTaken>> for EvkOffset {
     }
 }
 
+// The next or the previous instant of a plan.
+pub(crate) fn nearest(answer: Result<Option<u64>, NotTaken>) -> EvkFound
+    ensures { result ≡ answer_as answer }
+{
+    found(answer, NONE)
+}
+
+// The instant of a local minute by a plan's zone.
+pub(crate) fn local(answer: Result<Option<u64>, NotTaken>) -> EvkFound
+    ensures { result ≡ local_as answer }
+{
+    found(answer, OUTSIDE)
+}
+
 // An instant, or `none` where a plan that is taken has none.
-pub(crate) fn found(answer: Result<Option<u64>, NotTaken>, none: u64) -> EvkFound
+fn found(answer: Result<Option<u64>, NotTaken>, none: u64) -> EvkFound
     ensures { result ≡ found_as none answer }
 {
     match answer {

@@ -8,9 +8,7 @@ ghost use Rattle.evandrusk.specs.Answers.{day_of_date_answer, date_of_day_answer
 ghost use Rattle.evandrusk.specs.Plans.{check_answer, NextAnswer, PreviousAnswer, local_answer, offset_answer};
 ghost use Rattle.evandrusk.specs.Sheets.{compile_answer};
 
-use answers::{
-    EvkChecked, EvkCompiled, EvkDate, EvkDay, EvkFound, EvkIso, EvkOffset, NONE, OUTSIDE,
-};
+use answers::{EvkChecked, EvkCompiled, EvkDate, EvkDay, EvkFound, EvkIso, EvkOffset};
 use calendar::{date, iso};
 
 pub mod answers;
@@ -68,24 +66,21 @@ pub fn evk_check(plan: &[u8]) -> EvkChecked
 pub fn evk_next(plan: &[u8], instant: i64) -> EvkFound
     ensures { NextAnswer plan.now instant result }
 {
-    answers::found(next::next(plan, signed::bias_instant(instant)), NONE)
+    answers::nearest(next::next(plan, signed::bias_instant(instant)))
 }
 
 #[tactic(auto, using(crate::proofs::Edges::previous_edge))]
 pub fn evk_previous(plan: &[u8], instant: i64) -> EvkFound
     ensures { PreviousAnswer plan.now instant result }
 {
-    answers::found(next::previous(plan, signed::bias_instant(instant)), NONE)
+    answers::nearest(next::previous(plan, signed::bias_instant(instant)))
 }
 
 #[tactic(auto, using(crate::proofs::Edges::local_edge))]
 pub fn evk_instant_of_local(plan: &[u8], local_minute: i64) -> EvkFound
     ensures { result ≡ local_answer plan.now local_minute }
 {
-    answers::found(
-        next::instant_of_local(plan, answers::minute_of(local_minute)),
-        OUTSIDE,
-    )
+    answers::local(next::instant_of_local(plan, answers::minute_of(local_minute)))
 }
 
 #[tactic(auto, using(crate::proofs::Edges::offset_edge))]

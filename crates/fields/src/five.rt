@@ -56,6 +56,8 @@ fn frame_of(
 
 // The frame of five fields, or None where a number is out of range, and the place after them.
 // A number out of range does not end the reading: a later form error comes first.
+// Not in line: what the fields come to would lie under the search of a rule's start.
+#[inline(never)]
 pub fn five_at(s: &[u8], c: Cursor) -> Option<(Option<Cron>, Cursor)>
     ensures { result ≡ five_as (cron_read s.now c.at) }
 {

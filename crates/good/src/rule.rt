@@ -62,7 +62,8 @@ fn frequency_good(f: Rule) -> bool
     }
 }
 
-// Whether the start is an occurrence.
+// Whether the start is an occurrence. In line: its row then lies beside what its caller holds, and not below it.
+#[inline(always)]
 pub fn start_held(f: Rule) -> bool
     ensures { result ≡ (in_window f.start && rule_occurs f f.start) }
 {

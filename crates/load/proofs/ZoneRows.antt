@@ -2,38 +2,31 @@
 use mathlib.Core.Bool.{Bool, true, false}
 use mathlib.Core.List.{List, [], ◌∷◌}
 use mathlib.Core.Path.{◌≡◌, refl, sym, ap, ◌∙◌}
-use Prim.Native.Nat.{ℕ, zero, suc, ◌+◌, ◌≤◌, min}
+use Prim.Native.Nat.{ℕ, zero, suc, ◌+◌, ◌-◌, ◌≤◌, min}
 use native.Mathlib.Omega.{arith}
 use borrow.Author.Tests.{eq-eqb, ne_eqb}
 use lib.Dec.{eqb}
 use lib.ListN.{length, get_or, take, drop, set, replicate}
 use lib.Seq.{sets, sets-eq, take-append_seam}
-use Rattle.std.proofs.lemmas.List.{drop_all, take_min}
+use Rattle.std.proofs.lemmas.List.{drop_all}
 use Rattle.zone.specs.Held.{offsets_of}
 use Rattle.zone.specs.declared.Transition.{Transition}
 use Rattle.zone.specs.declared.Zone.{Zone}
 use Rattle.load.specs.Zones.{change_in, changes_in, with_changes, bare, zone_of}
 
 -- what is left of the rows after the first, from place i on, makes the zone
-pub record Rest (rows changes : List (List ℕ)) (zone : Zone) (i : ℕ) : Type 0 where
+pub record Rest (rows : List (List ℕ)) (count : ℕ) (changes : List (List ℕ)) (zone : Zone) (i : ℕ) : Type 0 where
   pub next : i ≡ zone.count
-  pub rest : with_changes zone (changes_in (drop i changes)) ≡ zone_of rows
+  pub rest : with_changes zone (changes_in (drop i changes)) ≡ zone_of rows count
 
-pub rest_first : (rows : List (List ℕ)) (row : List ℕ) (rest : List (List ℕ)) (n : ℕ) → rows ≡ row ∷ rest → n ≡ min (length rest) 32
-    → Rest rows (take n rest) (bare (get_or row 1 0)) 0
+pub rest_first : (rows : List (List ℕ)) (count n : ℕ) → n ≡ min count 33 - 1
+    → Rest rows count (take n (drop 1 rows)) (bare (get_or (get_or rows 0 []) 1 0)) 0
 unfolding zone_of
-rest_first rows row rest n e m =
-    let few : min (length rest) 32 ≡ min 32 (length rest) = omega arith in
-    rw e
-    (record {
+rest_first rows count n e =
+    record {
       next = refl;
-      rest = ap (λ (l : List (List ℕ)). with_changes (bare (get_or row 1 0)) (changes_in l)) (ap (λ (k : ℕ). take k rest) (m ∙ few) ∙ take_min 32 rest);
-    })
-
-pub no_rows : (rows : List (List ℕ)) → length rows ≡ 0 → bare 0 ≡ zone_of rows
-unfolding zone_of changes_in
-no_rows [] e = refl
-no_rows (row ∷ rows) e = absurd (omega arith)
+      rest = ap (λ (k : ℕ). with_changes (bare (get_or (get_or rows 0 []) 1 0)) (changes_in (take k (drop 1 rows)))) e;
+    }
 
 -- no transition more
 unchanged : (z : Zone) → with_changes z [] ≡ z
@@ -55,16 +48,16 @@ goes_on (suc i) [] h = absurd (omega (arith, h))
 goes_on zero (row ∷ rows) h = rw (changes_in, eq-eqb (get_or row 0 0) 2 h) refl
 goes_on (suc i) (row ∷ rows) h = goes_on i rows h
 
-module _ (rows changes : List (List ℕ)) (zone : Zone) (i : ℕ) (r : Rest rows changes zone i) where
-  pub rest_none : length changes ≤ i → zone ≡ zone_of rows
+module _ (rows : List (List ℕ)) (count : ℕ) (changes : List (List ℕ)) (zone : Zone) (i : ℕ) (r : Rest rows count changes zone i) where
+  pub rest_none : length changes ≤ i → zone ≡ zone_of rows count
   unfolding changes_in
   rest_none h = sym (unchanged zone) ∙ ap (λ (l : List (List ℕ)). with_changes zone (changes_in l)) (sym (drop_all i changes h)) ∙ r.rest
 
-  pub rest_stops : (get_or (get_or changes i []) 0 0 ≡ 2 → ⊥) → zone ≡ zone_of rows
+  pub rest_stops : (get_or (get_or changes i []) 0 0 ≡ 2 → ⊥) → zone ≡ zone_of rows count
   rest_stops h = sym (unchanged zone) ∙ ap (with_changes zone) (sym (stops i changes h)) ∙ r.rest
 
   pub rest_on : get_or (get_or changes i []) 0 0 ≡ 2
-      → Rest rows changes (record { first = zone.first; count = i + 1; changes = set zone.changes i (change_in (get_or changes i [])) }) (i + 1)
+      → Rest rows count changes (record { first = zone.first; count = i + 1; changes = set zone.changes i (change_in (get_or changes i [])) }) (i + 1)
   rest_on h =
       let ts : List Transition = changes_in (drop (i + 1) changes) in
       let t : Transition = change_in (get_or changes i []) in

@@ -2,13 +2,15 @@
 use Rattle.std.specs.Prelude.{Option, None, Some}
 use mathlib.Core.Bool.{Bool, true, false, cond, not, ◌&&◌, false≢true}
 use mathlib.Core.List.{List, [], ◌∷◌, map}
+use mathlib.Core.Logic.{dite}
 use mathlib.Core.Path.{◌≡◌, refl, sym, ap, ◌∙◌}
-use Prim.Native.Nat.{ℕ, suc, ◌+◌, ◌≤◌}
+use Prim.Native.Nat.{ℕ, suc, ◌+◌, ◌-◌, ◌<◌, ◌≤◌, min}
+use native.Mathlib.Decide.{dec_lt}
 use native.Mathlib.Omega.{arith}
 use borrow.Author.Tests.{le-leb, ltb-true}
 use lib.Dec.{eqb, ltb}
-use lib.ListN.{length, take}
-use lib.Seq.{take_all}
+use lib.ListN.{length, get_or, take, drop, length-take}
+use lib.Seq.{take_all, take-nil, take-take, get_or-take}
 use Rattle.calendar.proofs.Every.{both_true}
 use Rattle.calendar.specs.Below.{within}
 use Rattle.lines.specs.Lines.{lines_of}
@@ -155,36 +157,54 @@ pub taken_few : (text : List ℕ) (fs : List Frame) → load text ≡ taken fs �
 unfolding frames_allowed
 taken_few text fs e = omega (arith, few_frames 0 start fs (omega arith) (taken_allowed text fs e))
 
-zone_first : (o : ℕ) (fs : List Frame) → offset_in_range o ≡ true → allowed_from 1 (zoned 0 0 o) fs ≡ true
-    → (offsets_of (zone_of (map row_of (Frame.Offset o ∷ fs))) ≡ plan_zone (Frame.Offset o ∷ fs)) × (zone_good (plan_zone (Frame.Offset o ∷ fs)) ≡ true)
+rows_after : (m : ℕ) (rows : List (List ℕ)) → take m (drop 1 rows) ≡ drop 1 (take (suc m) rows)
+rows_after m [] = take-nil m
+rows_after m (row ∷ rows) = refl
+
+at_most_32 : (m : ℕ) (rows : List (List ℕ)) → take (min (suc m) 33 - 1) rows ≡ take 32 (take m rows)
+at_most_32 m rows =
+    dite (dec_lt 32 m)
+    (λ (g : 32 < m).
+    let e : min (suc m) 33 - 1 ≡ 32 = omega arith in
+    ap (λ (k : ℕ). take k rows) e ∙ sym (take-take 32 m rows (omega arith)))
+    (λ (g : 32 < m → ⊥).
+    let e : min (suc m) 33 - 1 ≡ m = omega arith in
+    ap (λ (k : ℕ). take k rows) e ∙ sym (take_all 32 (take m rows) (omega (arith, length-take m rows))))
+
+zone_first : (o : ℕ) (fs : List Frame) (rows : List (List ℕ)) → offset_in_range o ≡ true → allowed_from 1 (zoned 0 0 o) fs ≡ true
+    → take (suc (length fs)) rows ≡ row_of (Frame.Offset o) ∷ map row_of fs
+    → (offsets_of (zone_of rows (suc (length fs))) ≡ plan_zone (Frame.Offset o ∷ fs)) × (zone_good (plan_zone (Frame.Offset o ∷ fs)) ≡ true)
 unfolding zone_of plan_zone offset_of changes_of zone_good row_of
-zone_first o fs g p =
+zone_first o fs rows g p r =
     let c = changes_read 1 0 0 o fs (omega arith) p in
     let h : length (changes_of fs) ≤ 32 = omega (arith, c.few) in
-    let t : changes_in (take 32 (map row_of fs)) ≡ changes_of fs =
-    changes_taken 32 (map row_of fs) ∙ ap (take 32) c.same ∙ take_all 32 (changes_of fs) h in (
-      ap (λ (ts : List Transition). offsets_of (with_changes (bare o) ts)) t ∙ held_changes o (changes_of fs) h,
+    let f : get_or (get_or rows 0 []) 1 0 ≡ o =
+    ap (λ (row : List ℕ). get_or row 1 0) (sym (get_or-take (suc (length fs)) rows 0 [] (omega arith)) ∙ ap (λ (l : List (List ℕ)). get_or l 0 []) r) in
+    let t : changes_in (take (min (suc (length fs)) 33 - 1) (drop 1 rows)) ≡ changes_of fs =
+    ap changes_in (at_most_32 (length fs) (drop 1 rows) ∙ ap (take 32) (rows_after (length fs) rows ∙ ap (drop 1) r))
+    ∙ changes_taken 32 (map row_of fs) ∙ ap (take 32) c.same ∙ take_all 32 (changes_of fs) h in (
+      (λ i. offsets_of (with_changes (bare (f i)) (t i))) ∙ held_changes o (changes_of fs) h,
       rw (g, le-leb (length (changes_of fs)) 32 h, c.good) refl,
     )
 
-zone_read : (fs : List Frame) → allowed_from 0 start fs ≡ true
-    → (offsets_of (zone_of (map row_of fs)) ≡ plan_zone fs) × (zone_good (plan_zone fs) ≡ true)
+zone_read : (fs : List Frame) (rows : List (List ℕ)) → allowed_from 0 start fs ≡ true → take (length fs) rows ≡ map row_of fs
+    → (offsets_of (zone_of rows (length fs)) ≡ plan_zone fs) × (zone_good (plan_zone fs) ≡ true)
 unfolding place allowed_from frame_good
-zone_read [] e = absurd (false≢true e)
-zone_read (Frame.Offset o ∷ fs) e =
+zone_read [] rows e r = absurd (false≢true e)
+zone_read (Frame.Offset o ∷ fs) rows e r =
     let p = first_of 0 start (Frame.Offset o) fs e in
-    zone_first o fs p.good (rw (the_same p.after (zoned 0 0 o) (sym p.placed)) at p.rest)
-zone_read (Frame.Change t ∷ fs) e = let p = first_of 0 start (Frame.Change t) fs e in no_place p.after p.placed
-zone_read (Frame.Cron f ∷ fs) e = let p = first_of 0 start (Frame.Cron f) fs e in no_place p.after p.placed
-zone_read (Frame.Rule f ∷ fs) e = let p = first_of 0 start (Frame.Rule f) fs e in no_place p.after p.placed
-zone_read (Frame.Extra m ∷ fs) e = let p = first_of 0 start (Frame.Extra m) fs e in no_place p.after p.placed
-zone_read (Frame.Excepted m ∷ fs) e = let p = first_of 0 start (Frame.Excepted m) fs e in no_place p.after p.placed
-zone_read (Frame.End n ∷ fs) e = let p = first_of 0 start (Frame.End n) fs e in no_place p.after p.placed
+    zone_first o fs rows p.good (rw (the_same p.after (zoned 0 0 o) (sym p.placed)) at p.rest) r
+zone_read (Frame.Change t ∷ fs) rows e r = let p = first_of 0 start (Frame.Change t) fs e in no_place p.after p.placed
+zone_read (Frame.Cron f ∷ fs) rows e r = let p = first_of 0 start (Frame.Cron f) fs e in no_place p.after p.placed
+zone_read (Frame.Rule f ∷ fs) rows e r = let p = first_of 0 start (Frame.Rule f) fs e in no_place p.after p.placed
+zone_read (Frame.Extra m ∷ fs) rows e r = let p = first_of 0 start (Frame.Extra m) fs e in no_place p.after p.placed
+zone_read (Frame.Excepted m ∷ fs) rows e r = let p = first_of 0 start (Frame.Excepted m) fs e in no_place p.after p.placed
+zone_read (Frame.End n ∷ fs) rows e r = let p = first_of 0 start (Frame.End n) fs e in no_place p.after p.placed
 
-pub taken_zone : (text : List ℕ) (fs : List Frame) → load text ≡ taken fs
-    → (offsets_of (zone_of (map row_of fs)) ≡ plan_zone fs) × (zone_good (plan_zone fs) ≡ true)
+pub taken_zone : (text : List ℕ) (fs : List Frame) → load text ≡ taken fs → (rows : List (List ℕ)) → take (length fs) rows ≡ map row_of fs
+    → (offsets_of (zone_of rows (length fs)) ≡ plan_zone fs) × (zone_good (plan_zone fs) ≡ true)
 unfolding frames_allowed
-taken_zone text fs e = zone_read fs (taken_allowed text fs e)
+taken_zone text fs e rows r = zone_read fs rows (taken_allowed text fs e) r
 
 -- the frames that are read of it are its frames
 frames_in_lem : (gs fs : List Frame) → taken gs ≡ taken fs → gs ≡ fs

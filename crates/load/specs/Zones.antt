@@ -1,5 +1,5 @@
 -- The zone that the rows of a plan's frames hold: the first row's offset, and the rows of kind 2 right after it.
-use Rattle.std.specs.Prelude.{true, false, List, [], ◌∷◌, ℕ, ◌+◌, length, get_or, take, drop, replicate}
+use Rattle.std.specs.Prelude.{true, false, List, [], ◌∷◌, ℕ, ◌+◌, ◌-◌, min, length, get_or, take, drop, replicate}
 use Rattle.std.proofs.lemmas.List.Edits.{sets}
 use Rattle.zone.specs.Zone.{most_changes}
 use Rattle.zone.specs.declared.Transition.{Transition}
@@ -25,5 +25,5 @@ abbrev pub bare : ℕ → Zone
 bare offset = record { first = offset; count = 0; changes = replicate most_changes (record { at = 0; offset = 0 }) }
 
 -- a plan has its first offset and at most 32 transitions, so only so many rows are looked at
-unfoldable pub zone_of : List (List ℕ) → Zone
-zone_of rows = with_changes (bare (offset_in (get_or rows 0 []))) (changes_in (take most_changes (drop 1 rows)))
+unfoldable pub zone_of : List (List ℕ) → ℕ → Zone
+zone_of rows count = with_changes (bare (offset_in (get_or rows 0 []))) (changes_in (take (min count (most_changes + 1) - 1) (drop 1 rows)))

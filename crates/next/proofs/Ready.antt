@@ -6,7 +6,7 @@ use mathlib.Core.Path.{◌≡◌, refl, sym, ap, ◌∙◌}
 use Prim.Native.Nat.{ℕ, ◌+◌, ◌≤◌}
 use native.Mathlib.Omega.{arith}
 use lib.ListN.{length, take, drop, length-map}
-use lib.Seq.{sets, sets-eq, take-append_seam}
+use lib.Seq.{sets, sets-eq, take_all, take-append_seam}
 use Rattle.load.proofs.Zones.{read_frames_of_taken, taken_zone, taken_few}
 use Rattle.load.specs.Loads.{not_taken, loaded_as, read_frames}
 use Rattle.load.specs.Zones.{zone_of}
@@ -27,7 +27,7 @@ pub record Ready (plan : List ℕ) (rows : List (List ℕ)) (count : ℕ) : Type
   pub is : load plan ≡ taken frames
   pub fits : count ≤ 64
   pub held : take count rows ≡ map row_of frames
-  pub zone : offsets_of (zone_of (take count rows)) ≡ plan_zone frames
+  pub zone : offsets_of (zone_of rows count) ≡ plan_zone frames
   pub good : zone_good (plan_zone frames) ≡ true
 
 -- the rows in front
@@ -51,8 +51,8 @@ ready plan before rows count l a s = by_load (load plan) refl a
         ap (λ (k : ℕ). take k rows) n
         ∙ ap (take (length fs)) (s ∙ ap (λ (gs : List Frame). sets before 0 (map row_of gs)) (read_frames_of_taken plan fs e))
         ∙ front fs before (omega arith) in
-        let z = taken_zone plan fs e in
-        record { frames = fs; is = e; fits = omega arith; held = r; zone = ap (λ (l : List (List ℕ)). offsets_of (zone_of l)) r ∙ z.0; good = z.1 }
+        let z = taken_zone plan fs e rows (ap (λ (k : ℕ). take k rows) (sym n) ∙ r) in
+        record { frames = fs; is = e; fits = omega arith; held = r; zone = ap (λ (k : ℕ). offsets_of (zone_of rows k)) n ∙ z.0; good = z.1 }
     by_load (refused k) e q = let z : ◌≡◌ {A = ℕ} 0 1 = cc in absurd (omega arith)
 
 module _ {T : Type 0} (right : List Frame → T → Type 0) (plan : List ℕ) where
@@ -89,7 +89,7 @@ module _ {T : Type 0} (right : List Frame → T → Type 0) where
 -- a plan that is taken has a good zone, so its instants lie within a day of the window
 pub taken_good : (plan : List ℕ) (fs : List Frame) → load plan ≡ taken fs → zone_good (plan_zone fs) ≡ true
 taken_good plan fs e =
-    (taken_zone plan fs e).1
+    (taken_zone plan fs e (map row_of fs) (take_all (length fs) (map row_of fs) (omega (arith, length-map fs row_of)))).1
 
 pub plan_instants_range : (fs : List Frame) → zone_good (plan_zone fs) ≡ true → (i : ℕ) → PlanInstant fs i → Within 600 52598159 i
 plan_instants_range fs g i p =

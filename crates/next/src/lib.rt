@@ -22,7 +22,7 @@ fn in_plan<T, F: FnOnce(&Opened) -> T>(plan: &[u8], ask: F) -> Result<T, NotTake
     let mut rows = fresh_rows();
     let count = load::load(plan, &mut rows)?;
     let frames = &rows[..count];
-    let zone = zone_of(frames);
+    let zone = zone_of(&rows, count);
     let opened = Opened {
         frames,
         zone: &zone,

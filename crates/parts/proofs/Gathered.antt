@@ -4,15 +4,15 @@ use Rattle.std.specs.Option.{is_some}
 use mathlib.Core.Bool.{Bool, true, false, cond, ◌&&◌, ◌||◌, or_assoc, or-true, or-false, and_assoc, and-true, true≢false}
 use mathlib.Core.List.{List, [], ◌∷◌, ◌++◌, append-nil, append_assoc}
 use mathlib.Core.Path.{◌≡◌, refl, sym, ap, ◌∙◌}
-use Prim.Native.Nat.{ℕ, ◌+◌, ◌<◌}
+use Prim.Native.Nat.{ℕ, ◌+◌, ◌<◌, ◌≤◌}
 use native.Mathlib.Omega.{arith}
 use borrow.Author.Tests.{ne_eqb, eqb-true}
 use lib.Dec.{eqb}
 use lib.ListN.{length}
 use Rattle.calendar.proofs.Every.{same_either_way, regrouped}
 use Rattle.calendar.specs.Below.{any_of, all_of}
-use Rattle.entries.proofs.Gathering.{step_of, gathered_list, made_same}
-use Rattle.entries.specs.Gathered.{gathered, ended}
+use Rattle.entries.proofs.Gathering.{gathered_list, made_same, step_goes_on}
+use Rattle.entries.specs.Gathered.{gathered, step_of, ended}
 use Rattle.entries.specs.Lists.{weekdays_given, numbers_given, months_given}
 use Rattle.masks.proofs.MaskFroms.{mask_ext, mask_from_same, mask_from_below, bit_in_mask}
 use Rattle.masks.proofs.WithBits.{bit_of_with_bit, with_bit_below}
@@ -22,6 +22,7 @@ use Rattle.sheet.specs.Parts.{Given, given_of, name_of, given_twice}
 use Rattle.sheet.specs.Range.{time_in_range, minute_of, part_in_range}
 use Rattle.sheet.specs.Words.{Signed}
 use Rattle.words.specs.Lists.{over_all}
+use Rattle.parts.proofs.Places.{part_after}
 use Rattle.parts.specs.Given.{name_in, good_in, with_value, taken, take_part, frequency_from, until_from, days_from, numbers_from, months_from, parts_given, parts_read, parts_as}
 use Rattle.parts.specs.Values.{part_as, part_read}
 use Rattle.parts.specs.declared.given.Parts.{Parts}
@@ -287,3 +288,6 @@ parts_taken s at =
     ap ended
     (gathered_list take_part (part_read s) 59 s (length s + 1) (parts_given []) at
     ∙ made_same (over_all take_part (parts_given [])) parts_given _ (λ ps e q. parts_over [] ps))
+
+pub part_goes_on : (s : List ℕ) (m : Parts) (at : ℕ) (r : Parts × ℕ) → step_of take_part (part_read s) m at ≡ Some r → at ≤ r.1
+part_goes_on s m at = step_goes_on (take_part m) (part_read s at) at (part_after s at)

@@ -1,13 +1,13 @@
 // The parts of a rule together.
 ghost use Rattle.std.specs.Prelude.{◌≡◌};
-ghost use Rattle.words.specs.Answers.{made_read};
-ghost use Rattle.entries.specs.Gathered.{ended};
+ghost use Rattle.std.proofs.Common.{lit≤};
+ghost use Rattle.entries.specs.Gathered.{step_of};
 ghost use Rattle.parts.specs.Given.{name_in, good_in, with_value, taken, take_part, parts_as, parts_read};
 ghost use Rattle.parts.specs.Values.{part_read};
 
 use crate::names;
 use crate::part::{Part, part_at};
-use entries::list::gather;
+use entries::list::{Listed, gather};
 use entries::numbers::Numbers;
 use entries::weekdays::Weekdays;
 use words::cursor::{Cursor, SEMICOLON};
@@ -125,20 +125,30 @@ fn take(m: Parts, x: Part) -> Parts
     with_value(Parts { names, ..m }, x)
 }
 
+// The parts between semicolons.
+struct PartList {}
+
+impl Listed for PartList {
+    type Made = Parts;
+
+    const SEPARATOR: u8 = SEMICOLON;
+
+    ghost SEPARATOR = { 59 };
+
+    ghost step = { λ s. step_of take_part (part_read s) };
+
+    ghost marks = { lit≤ tt };
+
+    #[inline(always)]
+    fn take(s: &[u8], m: Parts, c: Cursor) -> Option<(Parts, Cursor)> {
+        let (x, next) = part_at(s, c)?;
+        Some((take(m, x), next))
+    }
+}
+
 // The parts from a cursor on.
 pub fn parts_at(s: &[u8], c: Cursor) -> Option<(Parts, Cursor)>
     ensures { result ≡ parts_as (parts_read s.now c.at) }
 {
-    gather(
-        s,
-        SEMICOLON,
-        NOTHING,
-        c,
-        |m, c|
-            ensures { result ≡ ended (made_read (take_part m) (part_read s.entry.now c.at)) }
-        {
-            let (x, next) = part_at(s, c)?;
-            Some((take(m, x), next))
-        },
-    )
+    gather::<PartList>(s, NOTHING, c)
 }

@@ -50,7 +50,8 @@ fn together(p: Parts) -> bool
     !p.twice && !(p.count.is_some() && p.until.is_some()) && by_frequency(p)
 }
 
-// The start is an occurrence, and not after UNTIL.
+// The start is an occurrence, and not after UNTIL. In line, as what it calls: the row that the search goes by then lies beside the parts.
+#[inline(always)]
 #[tactic(auto, unfolding(crate::specs::Ruled::start_held_in))]
 fn start_held_in(p: Parts, f: Rule) -> bool
     ensures { result ≡ start_held_in p f }

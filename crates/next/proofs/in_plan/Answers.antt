@@ -2,7 +2,7 @@
 use mathlib.Core.Path.{◌≡◌, ap, ◌∙◌}
 use native.Mathlib.Omega.{arith}
 use borrow.Author.Rules.{rules}
-use lib.ListN.{length, length-take}
+use lib.ListN.{length}
 use Rattle.std.specs.Prelude.{Err}
 use Rattle.zone.specs.Held.{offsets_of}
 use Rattle.zone.specs.Zone.{zone_good}
@@ -20,11 +20,11 @@ returns-in_err-count g c =
     let e : c.from_residual.result ≡ Err c.in_err-count.field-0.0 = search rules in
     rw e (answer_refused _ c.args.plan.now _ c.in_err-count.ensures.answer)
 
-pub slice_bounds-rows-end : goal.slice_bounds-rows-end
-slice_bounds-rows-end g c = omega (arith, (rows_ready g c).fits)
-
 pub slice_bounds-frames-end : goal.slice_bounds-frames-end
-slice_bounds-frames-end g c = omega (arith, c.load.array_long, length-take c.in_ok-count.count c.load.new.rows, (rows_ready g (goal.at.slice_bounds-frames-end g c).In_ok-count).fits)
+slice_bounds-frames-end g c = omega (arith, (rows_ready g (goal.at.slice_bounds-frames-end g c).In_ok-count).fits)
+
+pub shared_ref_as_front-frames : goal.shared_ref_as_front-frames
+shared_ref_as_front-frames g c = omega (arith, (rows_ready g (goal.at.shared_ref_as_front-frames g c).In_ok-count).fits)
 
 pub invariant_of-opened : goal.invariant_of-opened
 invariant_of-opened g c =

@@ -1,28 +1,30 @@
 -- What is left, taken up in what was read, comes to the whole list.
 use Rattle.std.proofs.Common.{arith, sym, ◌∙◌, refl, ◌+◌, length}
 use Rattle.words.specs.Reads.{cursor}
-use Rattle.entries.proofs.Gathering.{rest_not, rest_last, rest_next}
+use Rattle.entries.proofs.Gathering.{ended_is, rest_not, rest_last, rest_next}
 use Rattle.entries.proofs.list.gather.Goals as goal
 
-pub loop-step-init : goal.loop-step-init
-loop-step-init g c = λ t h. record { left = length c.args.s.now + 1; some = omega arith; above = omega arith; same = refl }
+pub loop-more-init : goal.loop-more-init
+loop-more-init g c = record { left = length c.args.s.now + 1; some = omega arith; above = omega arith; same = refl }
 
 pub returns-in_err-more : goal.returns-in_err-more
-returns-in_err-more g c = λ t h.
+returns-in_err-more g c =
     c.from_residual.ensures
-    ∙ rest_not t c.args.separator c.args.s.now _ c.loop-step.m c.loop-step.at (c.loop-step.invariant t h)
-    (h c.loop-step.m (cursor c.loop-step.at) _ c.in_err-more.ensures)
+    ∙ rest_not (g.L.Listed.step c.args.s.now) g.L.Listed.SEPARATOR c.args.s.now _ c.loop-more.m c.loop-more.at c.loop-more.invariant
+    c.in_err-more.ensures.value
 
-pub returns-then-byte-separator : goal.returns-then-byte-separator
-returns-then-byte-separator g c = λ t h.
-    rest_last t c.args.separator c.args.s.now _ c.loop-step.m c.loop-step.at (c.loop-step.invariant t h) (c.in_ok-more.more, c.in_ok-more.next)
-    (h c.loop-step.m (cursor c.loop-step.at) _ c.in_ok-more.ensures)
-    (λ q. c.if-byte-separator.true (c.byte.ensures ∙ q))
+pub returns-then-byte-SEPARATOR : goal.returns-then-byte-SEPARATOR
+returns-then-byte-SEPARATOR g c =
+    rest_last (g.L.Listed.step c.args.s.now) g.L.Listed.SEPARATOR c.args.s.now _ c.loop-more.m c.loop-more.at c.loop-more.invariant
+    (c.in_ok-more.more, c.in_ok-more.next)
+    c.in_ok-more.ensures.value
+    (λ q. c.if-byte-SEPARATOR.true (c.byte.ensures ∙ q ∙ sym c.SEPARATOR.ensures))
 
-pub loop-step-preserved : goal.loop-step-preserved
-loop-step-preserved g c = λ t h.
-    rest_next t c.args.separator c.args.s.now _ c.loop-step.m c.loop-step.at (c.loop-step.invariant t h) (c.in_ok-more.more, c.in_ok-more.next)
-    (h c.loop-step.m (cursor c.loop-step.at) _ c.in_ok-more.ensures)
-    c.requires.mark
-    (c.requires.onward c.loop-step.m (cursor c.loop-step.at) (c.in_ok-more.more, c.in_ok-more.next) c.in_ok-more.ensures)
-    (sym c.byte.ensures ∙ c.if-byte-separator.false)
+pub loop-more-preserved : goal.loop-more-preserved
+loop-more-preserved g c =
+    rest_next (g.L.Listed.step c.args.s.now) g.L.Listed.SEPARATOR c.args.s.now _ c.loop-more.m c.loop-more.at c.loop-more.invariant
+    (c.in_ok-more.more, c.in_ok-more.next)
+    c.in_ok-more.ensures.value
+    g.met.L.Listed.marks
+    (c.in_ok-more.ensures.onward (c.in_ok-more.more, c.in_ok-more.next.at) (ended_is _ (c.in_ok-more.more, c.in_ok-more.next) c.in_ok-more.ensures.value))
+    (sym c.byte.ensures ∙ c.if-byte-SEPARATOR.false ∙ c.SEPARATOR.ensures)
