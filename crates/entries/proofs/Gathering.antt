@@ -21,7 +21,7 @@ pub ended_is : {M : Type 0} (o : Option (M × ℕ)) (r : M × Cursor) → Some r
 ended_is None r e = let z : ◌≡◌ {A = ℕ} 0 1 = cc in absurd (omega arith)
 ended_is (Some q) r e = let z : r ≡ (q.0, cursor q.1) = cc in rw z refl
 
-ended_not : {M : Type 0} (o : Option (M × ℕ)) → None ≡ ended o → o ≡ None
+pub ended_not : {M : Type 0} (o : Option (M × ℕ)) → None ≡ ended o → o ≡ None
 ended_not None e = refl
 ended_not (Some q) e = let z : ◌≡◌ {A = ℕ} 0 1 = cc in absurd (omega arith)
 
@@ -106,6 +106,10 @@ step_goes_on {M = M} f (Some q) at h r e = let y : q.1 ≡ r.1 = ap place e in o
     place : Option (M × ℕ) → ℕ
     place None = 0
     place (Some x) = x.1
+
+pub step_onward : {A M : Type 0} (f : A → M) (o : Option (A × ℕ)) (at : ℕ) → Reads (λ x e. at ≤ e) o → (r : M × Cursor) → Some r ≡ ended (made_read f o)
+    → at ≤ r.1.at
+step_onward f o at h r e = step_goes_on f o at h (r.0, r.1.at) (ended_is (made_read f o) r e)
 
 -- a number without a sign takes a byte at least
 pub number_goes_on : (s : List ℕ) (at : ℕ) → Reads (λ n e. at ≤ e) (number_read (number_at s at))

@@ -2,6 +2,7 @@
 pub mod Places
 pub mod Entries
 pub mod Gathering
+pub mod Leading
 pub mod Setting
 pub mod Marking
 pub mod Listed

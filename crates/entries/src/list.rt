@@ -1,6 +1,7 @@
 // Lists with a separator, taken up as they are read.
 ghost use Rattle.std.specs.Prelude.{◌≡◌, ℕ, ◌+◌, ◌<◌, ◌≤◌, length, List, Option, Some};
-ghost use Rattle.entries.specs.Gathered.{gathered, ended};
+ghost use Rattle.words.specs.declared.cursor.Cursor.{Cursor};
+ghost use Rattle.entries.specs.Gathered.{gathered, ended, Leads};
 
 use words::cursor::Cursor;
 
@@ -40,3 +41,49 @@ pub fn gather<L: Listed>(s: &[u8], start: L::Made, c: Cursor) -> Option<(L::Made
         at = next.at + 1;
     }
 }
+
+// A list by a value, as a closure would be one: its separator may be chosen, and its step goes by what the value holds and may answer this or that.
+pub trait Steps {
+    type Made: Copy;
+
+    ghost separator: { Self → ℕ };
+
+    ghost step: { Self → Self.Made → Cursor → Option (Self.Made × Cursor) → Type 0 };
+
+    // No line has a byte 0, which stands for its end.
+    fn separator(&self) -> u8
+        ensures value { result ≡ separator self.now }
+        ensures mark { 0 < result };
+
+    // No step goes a way back.
+    fn step(&self, m: Self::Made, c: Cursor) -> Option<(Self::Made, Cursor)>
+        ensures answer { step self.now m c result }
+        ensures onward { (r : Self.Made × Cursor) → result ≡ Some r → c.at ≤ r.1.at };
+}
+
+// What a list comes to by the steps of a value, one after the other, and the place after it.
+pub fn gather_by<L: Steps>(
+    s: &[u8],
+    start: L::Made,
+    c: Cursor,
+    list: &L,
+) -> Option<(L::Made, Cursor)>
+    ensures led { Leads (L.step list.now) (L.separator list.now) s.now (length s.now + 1) start c.at result }
+    ensures gathered { (t : L.Made → ℕ → Option (L.Made × ℕ))
+        → ((m : L.Made) (c : Cursor) (r : Option (L.Made × Cursor)) → L.step list.now m c r → r ≡ ended (t m c.at))
+        → result ≡ ended (gathered t (L.separator list.now) s.now (length s.now + 1) start c.at) }
+{
+    let mut m = start;
+    let mut at = c.at;
+    loop {
+        let (made, next) = list.step(m, Cursor { at })?;
+        if next.byte(s) != list.separator() {
+            return Some((made, next));
+        }
+        m = made;
+        at = next.at + 1;
+    }
+}
+
+#[cfg(test)]
+mod tests;
