@@ -107,6 +107,7 @@ step_goes_on {M = M} f (Some q) at h r e = let y : q.1 ≡ r.1 = ap place e in o
     place None = 0
     place (Some x) = x.1
 
+-- the same of the step's answer with a cursor
 pub step_onward : {A M : Type 0} (f : A → M) (o : Option (A × ℕ)) (at : ℕ) → Reads (λ x e. at ≤ e) o → (r : M × Cursor) → Some r ≡ ended (made_read f o)
     → at ≤ r.1.at
 step_onward f o at h r e = step_goes_on f o at h (r.0, r.1.at) (ended_is (made_read f o) r e)

@@ -20,6 +20,7 @@ returns-then-byte-separator-clause-led g c =
     leads_last (g.L.Steps.step c.args.list.now) (g.L.Steps.separator c.args.list.now) c.args.s.now _ c.loop-made.m c.loop-made.at c.loop-made.invariant
     (c.in_ok-made.made, c.in_ok-made.next)
     c.in_ok-made.ensures.answer
+    (c.in_ok-made.ensures.onward (c.in_ok-made.made, c.in_ok-made.next) refl)
     (λ q. c.if-byte-separator.true (c.byte.ensures ∙ q ∙ sym c.separator.ensures.value))
 
 pub returns-then-byte-separator-clause-gathered : goal.returns-then-byte-separator-clause-gathered
@@ -30,6 +31,6 @@ loop-made-preserved g c =
     leads_next (g.L.Steps.step c.args.list.now) (g.L.Steps.separator c.args.list.now) c.args.s.now _ c.loop-made.m c.loop-made.at c.loop-made.invariant
     (c.in_ok-made.made, c.in_ok-made.next)
     c.in_ok-made.ensures.answer
-    (rw c.separator.ensures.value at c.separator.ensures.mark)
     (c.in_ok-made.ensures.onward (c.in_ok-made.made, c.in_ok-made.next) refl)
+    (rw c.separator.ensures.value at c.separator.ensures.mark)
     (sym c.byte.ensures ∙ c.if-byte-separator.false ∙ c.separator.ensures.value)
